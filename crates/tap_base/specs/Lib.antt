@@ -1,0 +1,12 @@
+pub mod Bytes
+pub mod Interval
+pub mod Lexeme
+pub mod Lists
+pub mod Small
+pub mod SmallGrammar
+pub mod SmallNames
+pub mod SmallText
+pub mod Spans
+pub mod Tokens
+pub mod Words
+pub mod formers

@@ -1,0 +1,31 @@
+//! Plain types that every other crate speaks of: the tree of a text, the system that it names, what
+//! goes between processes, tokens, and refusals. `specs/` has what a text means on its way to a system.
+#![tactic(auto)]
+
+mod ast;
+mod bytes;
+mod list;
+mod memory;
+mod place;
+mod refusal;
+mod system;
+mod text;
+mod token;
+mod tree;
+mod wire;
+
+pub use ast::{
+    Ast, AstAction, AstBranch, AstConst, AstExpr, AstField, AstGuard, AstKind, AstMessage,
+    AstProcess, AstScalar, AstStmt, AstTarget, AstType, AstVar, Bound, Ident,
+};
+pub use bytes::Bytes;
+pub use list::{List, item};
+pub use memory::NoMemory;
+pub use place::{Place, Range};
+pub use refusal::{Refusal, RefusalCode};
+pub use sqlite_items::Boxed;
+pub use system::{Action, Field, Guard, Inputs, Message, Process, System, Var};
+pub use text::Text;
+pub use token::{Sign, Token, TokenKind};
+pub use tree::{Branch, Expr, ExprKind, Op, Stmt, Target};
+pub use wire::{Receive, Wire, WireField};
