@@ -1,0 +1,14 @@
+pub mod Agree
+pub mod Atoms
+pub mod Choices
+pub mod Counted
+pub mod Dated
+pub mod Goes
+pub mod Keeps
+pub mod Lists
+pub mod Opened
+pub mod Performed
+pub mod Progress
+pub mod QuietSteps
+pub mod Ranges
+pub mod Same
