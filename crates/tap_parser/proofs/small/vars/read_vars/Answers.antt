@@ -1,0 +1,12 @@
+use Rattle.tap_base.specs.Lexeme.{lexeme, lexemes}
+use Rattle.tap_parser.proofs.Declarations.{no_vars, vars_no_begin, vars_found}
+use Rattle.tap_parser.proofs.small.vars.read_vars.Goals as goal
+
+pub returns-in-Some : goal.returns-in-Some
+returns-in-Some c = no_vars (lexemes c.args.source.now.text.now c.args.source.now.tokens.now) c.args.at (lexeme c.args.source.now.text.now c.in-Some.field-0) c.new.result c.new.ensures c.in-Some.ensures.taken
+
+pub returns-in_default-take-2 : goal.returns-in_default-take-2
+returns-in_default-take-2 c = vars_no_begin (lexemes c.args.source.now.text.now c.args.source.now.tokens.now) c.args.at (lexeme c.args.source.now.text.now c.in-Some-take.field-0) c.in_ok-vars.vars c.in_default.ensures.taken c.in-Some-take.ensures.taken.stands c.in_ok-vars.ensures c.in_default-take-2.ensures.taken
+
+pub returns : goal.returns
+returns c = vars_found (lexemes c.args.source.now.text.now c.args.source.now.tokens.now) c.args.at (lexeme c.args.source.now.text.now c.in-Some-take.field-0) (lexeme c.args.source.now.text.now c.in-Some-take-2.field-0) c.in_ok-vars.vars c.in-Some-take.ensures.taken c.in_ok-vars.ensures c.in-Some-take-2.ensures.taken
