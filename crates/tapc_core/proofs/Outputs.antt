@@ -1,0 +1,191 @@
+-- From what was served to what is written.
+use Rattle.std.proofs.Common.{◌≡◌, ◌+◌, ◌⊎◌, inl, inr, ℕ, List, [], ◌∷◌, ◌++◌, length, Option, Some, None, IfSome, refl, ap, sym, subst, ◌∙◌, append_assoc, append-nil}
+use Rattle.std.specs.Io.KnownBytes.{Appends}
+use Rattle.tap_base.specs.Small.{IsSmall}
+use Rattle.tap_base.specs.declared.system.System.{System}
+use Rattle.abstract_run.specs.declared.label.Event.{Event}
+use Rattle.abstract_run.specs.declared.state.State.{State}
+use Rattle.tapc_core.specs.Closing.{Closes, ClosesOr, failed, put}
+use Rattle.tapc_core.specs.Output.{IsBadTrace, IsFrontOfTrace, IsOutput, IsPartOfOutput, IsPlayed, IsTrace, IsUnfinished, IsWritten, Puts, Writes, bad_line, no_memory_line}
+use Rattle.tapc_core.specs.Run.{AreOf, Files, Played}
+use Rattle.tapc_core.specs.ScheduleText.{BeginsSchedule, GoesOnAfter, SpellsSchedule, events_text}
+use Rattle.tapc_core.specs.Serving.{Broken, Passed, Progress}
+use Rattle.tapc_core.specs.TraceText.{end_line, label_lines, process_names, trace_text, var_lines}
+use Rattle.tapc_core.specs.declared.status.Status.{Status}
+use Rattle.tapc_core.specs.declared.status.Status.TheVariants.{Done, Refused, Usage, BadSchedule, ReadFault, WriteFault, LinkFault, NoMemory, NotARun, WorldFull}
+use Rattle.tapc_core.proofs.Steps.{appends_more, appends_none}
+
+-- ---- closing
+
+output_written : (files : Files) (s : Status) (bytes : List ℕ) → IsOutput files s bytes → IsWritten files s bytes
+output_written files Done bytes h = h
+output_written files Refused bytes h = h
+output_written files Usage bytes h = h
+output_written files BadSchedule bytes h = h
+output_written files ReadFault bytes h = h
+output_written files WriteFault bytes h = absurd h
+output_written files LinkFault bytes h = h
+output_written files NoMemory bytes h = h
+output_written files NotARun bytes h = h
+output_written files WorldFull bytes h = h
+
+-- the last bytes are put behind others
+pub closes_behind : (files : Files) {status r : Status} {before middle now : Option (List ℕ)} {bytes : List ℕ} (done : List ℕ)
+    → Appends before middle done → IsOutput files status (done ++ bytes) → Closes status bytes middle now r → Writes files r before now
+closes_behind files {status = status} {before = before} {middle = middle} {now = now} {bytes = bytes} done told output (put more) = record {
+  bytes = done ++ bytes;
+  told = appends_more before middle now done bytes told more;
+  kind = output_written files status (done ++ bytes) output;
+}
+closes_behind files {status = status} {before = before} {middle = middle} {now = now} {bytes = bytes} done told output (failed front rest cut more) = record {
+  bytes = done ++ front;
+  told = appends_more before middle now done front told more;
+  kind = record { status = status; whole = done ++ bytes; output = output; rest = rest; front = append_assoc done front rest ∙ ap (λ x. done ++ x) cut };
+}
+
+-- the last bytes are all
+pub closes_alone : (files : Files) {status r : Status} {before now : Option (List ℕ)} {bytes : List ℕ}
+    → IsOutput files status bytes → Closes status bytes before now r → Writes files r before now
+closes_alone files {before = before} output closes = closes_behind files [] (appends_none before) output closes
+
+-- ---- schedules
+
+if_some : {A : Type 0} (o : Option A) (P Q : A → Type 0) → ((x : A) → P x → Q x) → IfSome o P → IfSome o Q
+if_some None P Q f h = tt
+if_some (Some x) P Q f h = f x h
+
+of_schedule : (o : Option (List ℕ)) (schedule : List ℕ) (K : List ℕ → Type 0) → K schedule → IfSome o (λ t. schedule ≡ t) → IfSome o K
+of_schedule o schedule K h same = if_some o (λ t. schedule ≡ t) K (λ t e. subst K e h) same
+
+spells_all : (names : List (List ℕ)) (schedule : List ℕ) (events : List Event) → Passed names schedule events []
+    → (schedule ≡ events_text names events) ⊎ (schedule ++ 10 ∷ [] ≡ events_text names events)
+spells_all names schedule events (inl h) = inl (h ∙ append-nil (events_text names events))
+spells_all names schedule events (inr h) = inr h.1
+
+goes_on : (names : List (List ℕ)) (schedule rest : List ℕ) (events : List Event) → (rest ≡ [] → ⊥) → Passed names schedule events rest → schedule ≡ events_text names events ++ rest
+goes_on names schedule rest events more (inl h) = h
+goes_on names schedule rest events more (inr h) = absurd (more h.0)
+
+begins : (names : List (List ℕ)) (schedule rest : List ℕ) (events : List Event) → Passed names schedule events rest
+    → (behind : List ℕ) × (schedule ++ 10 ∷ [] ≡ events_text names events ++ behind)
+begins names schedule rest events (inl h) = (rest ++ 10 ∷ [], ap (λ x. x ++ 10 ∷ []) h ∙ append_assoc (events_text names events) rest (10 ∷ []))
+begins names schedule rest events (inr h) = ([], h.1 ∙ sym (append-nil (events_text names events)))
+
+-- ---- outputs
+
+abbrev played : {system : System} {schedule rest : List ℕ} {number : ℕ} {s : State} {before now : Option (List ℕ)} {page : List ℕ} {files : Files}
+    → IsSmall system → AreOf system schedule files → Progress system schedule rest number s before now page → Played files
+played {system = system} {s = s} small of p =
+    record { system = system; small = small; spelled = of.spelled; events = p.events; labels = p.labels; last = s; run = p.run }
+
+-- what was put, the page, and then more
+shown_with : (done page shown more : List ℕ) → done ++ page ≡ shown → done ++ (page ++ more) ≡ shown ++ more
+shown_with done page shown more h = sym (append_assoc done page more) ∙ ap (λ x. x ++ more) h
+
+pub trace_output : {system : System} {schedule : List ℕ} {number : ℕ} {s : State} {before now : Option (List ℕ)} {page : List ℕ} {files : Files}
+    → IsSmall system → AreOf system schedule files → (p : Progress system schedule [] number s before now page)
+    → IsTrace files (p.put ++ (page ++ (var_lines system.processes s.stores ++ end_line)))
+trace_output {system = system} {schedule = schedule} {s = s} {page = page} {files = files} small of p = record {
+  run = played small of p;
+  schedule = of_schedule files.schedule schedule (λ t. SpellsSchedule (process_names system) t p.events)
+      (p.listed, spells_all (process_names system) schedule p.events p.passed) of.schedule_is;
+  is =
+      shown_with p.put page _ (var_lines system.processes s.stores ++ end_line) p.shown
+      ∙ sym (append_assoc (label_lines (process_names system) p.labels) (var_lines system.processes s.stores) end_line);
+}
+
+pub bad_output : {system : System} {schedule rest : List ℕ} {number : ℕ} {s : State} {before now : Option (List ℕ)} {page : List ℕ} {files : Files}
+    → IsSmall system → AreOf system schedule files → (rest ≡ [] → ⊥) → (p : Progress system schedule rest number s before now page)
+    → IsBadTrace files (p.put ++ (page ++ bad_line number))
+bad_output {system = system} {schedule = schedule} {rest = rest} {number = number} {page = page} {files = files} small of more p = record {
+  run = played small of p;
+  schedule = of_schedule files.schedule schedule (λ t. GoesOnAfter (process_names system) t p.events)
+      (record { rest = rest; listed = p.listed; split = goes_on (process_names system) schedule rest p.events more p.passed; more = more }) of.schedule_is;
+  is = shown_with p.put page _ (bad_line number) p.shown ∙ ap (λ n. label_lines (process_names system) p.labels ++ bad_line n) p.count;
+}
+
+front_output : {system : System} {schedule rest : List ℕ} {number : ℕ} {s : State} {before now : Option (List ℕ)} {page : List ℕ} {files : Files}
+    → IsSmall system → AreOf system schedule files → (p : Progress system schedule rest number s before now page)
+    → IsFrontOfTrace files (label_lines (process_names system) p.labels)
+front_output {system = system} {schedule = schedule} {rest = rest} {files = files} small of p =
+    let b = begins (process_names system) schedule rest p.events p.passed in
+    record {
+      run = played small of p;
+      schedule = of_schedule files.schedule schedule (λ t. BeginsSchedule (process_names system) t p.events) (record { listed = p.listed; rest = b.0; split = b.1 }) of.schedule_is;
+      is = refl;
+    }
+
+pub unfinished_output : {system : System} {schedule rest : List ℕ} {number : ℕ} {s : State} {before now : Option (List ℕ)} {page : List ℕ} {files : Files}
+    → IsSmall system → AreOf system schedule files → (p : Progress system schedule rest number s before now page)
+    → IsUnfinished files (p.put ++ (page ++ no_memory_line))
+unfinished_output {system = system} {page = page} small of p = record {
+  front = label_lines (process_names system) p.labels;
+  shown = inr (front_output small of p);
+  is = shown_with p.put page _ no_memory_line p.shown;
+}
+
+pub broken_output : {system : System} {schedule : List ℕ} {before now : Option (List ℕ)} {files : Files}
+    → IsSmall system → AreOf system schedule files → Broken system schedule before now → Writes files WriteFault before now
+broken_output {system = system} {before = before} {now = now} small of b =
+    let p = b.progress in
+    record {
+      bytes = p.put ++ b.front;
+      told = appends_more before b.middle now p.put b.front p.told b.told;
+      kind = record {
+        status = NoMemory;
+        whole = p.put ++ (b.page ++ no_memory_line);
+        output = unfinished_output small of p;
+        rest = b.behind ++ no_memory_line;
+        front =
+            append_assoc p.put b.front (b.behind ++ no_memory_line)
+            ∙ ap (λ x. p.put ++ x) (sym (append_assoc b.front b.behind no_memory_line) ∙ ap (λ x. x ++ no_memory_line) b.cut);
+      };
+    }
+
+-- ---- the ends of a run
+
+-- the same page, as it was handed on
+pub on_page : {system : System} {schedule rest : List ℕ} {number : ℕ} {s : State} {before now : Option (List ℕ)} {page given : List ℕ}
+    → given ≡ page → Progress system schedule rest number s before now page → Progress system schedule rest number s before now given
+on_page {system = system} {schedule = schedule} {rest = rest} {number = number} {s = s} {before = before} {now = now} e p =
+    subst (λ x. Progress system schedule rest number s before now x) (sym e) p
+
+-- the run was played to the end of its schedule
+pub trace_closes : (files : Files) {own system after : System} {schedule : List ℕ} {number : ℕ} {s : State} {before middle now : Option (List ℕ)} {page : List ℕ} {r : Status}
+    → own ≡ system → after ≡ own → IsSmall system → AreOf system schedule files → Progress own schedule [] number s before middle page
+    → ClosesOr Done (page ++ (var_lines after.processes s.stores ++ end_line)) (page ++ no_memory_line) middle now r → Writes files r before now
+trace_closes files {own = own} {schedule = schedule} {s = s} {middle = middle} {now = now} {page = page} {r = r} same still small of p (inl h) =
+    closes_behind files p.put p.told (trace_output (subst IsSmall (sym same) small) (subst (λ x. AreOf x schedule files) (sym same) of) p)
+    (subst (λ x. Closes Done (page ++ (var_lines x.processes s.stores ++ end_line)) middle now r) still h)
+trace_closes files {schedule = schedule} same still small of p (inr h) =
+    closes_behind files p.put p.told (unfinished_output (subst IsSmall (sym same) small) (subst (λ x. AreOf x schedule files) (sym same) of) p) h
+
+-- a line is that of no event
+pub bad_closes : (files : Files) {own system : System} {schedule rest : List ℕ} {number : ℕ} {s : State} {before middle now : Option (List ℕ)} {page : List ℕ} {r : Status}
+    → own ≡ system → IsSmall system → AreOf system schedule files → (rest ≡ [] → ⊥) → Progress own schedule rest number s before middle page
+    → ClosesOr BadSchedule (page ++ bad_line number) (page ++ no_memory_line) middle now r → Writes files r before now
+bad_closes files {schedule = schedule} same small of more p (inl h) =
+    closes_behind files p.put p.told (bad_output (subst IsSmall (sym same) small) (subst (λ x. AreOf x schedule files) (sym same) of) more p) h
+bad_closes files {schedule = schedule} same small of more p (inr h) =
+    closes_behind files p.put p.told (unfinished_output (subst IsSmall (sym same) small) (subst (λ x. AreOf x schedule files) (sym same) of) p) h
+
+-- memory was refused
+pub unfinished_closes : (files : Files) {own system : System} {schedule rest : List ℕ} {number : ℕ} {s : State} {before middle now : Option (List ℕ)} {page : List ℕ} {r : Status}
+    → own ≡ system → IsSmall system → AreOf system schedule files → Progress own schedule rest number s before middle page
+    → Closes NoMemory (page ++ no_memory_line) middle now r → Writes files r before now
+unfinished_closes files {schedule = schedule} same small of p h =
+    closes_behind files p.put p.told (unfinished_output (subst IsSmall (sym same) small) (subst (λ x. AreOf x schedule files) (sym same) of) p) h
+
+-- a put failed
+pub broken_closes : (files : Files) {own system : System} {schedule : List ℕ} {before now : Option (List ℕ)}
+    → own ≡ system → IsSmall system → AreOf system schedule files → Broken own schedule before now → Writes files WriteFault before now
+broken_closes files {schedule = schedule} same small of b = broken_output (subst IsSmall (sym same) small) (subst (λ x. AreOf x schedule files) (sym same) of) b
+
+-- what closes with an answer of playing is such an answer
+pub closes_played : {status r : Status} {bytes : List ℕ} {before now : Option (List ℕ)} → IsPlayed status → Closes status bytes before now r → IsPlayed r
+closes_played h (put told) = h
+closes_played h (failed front rest cut told) = tt
+
+-- nothing but that memory was refused
+pub refused_memory : (files : Files) → IsUnfinished files no_memory_line
+refused_memory files = record { front = []; shown = inl refl; is = refl }

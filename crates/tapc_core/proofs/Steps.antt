@@ -1,0 +1,156 @@
+-- What was put and written of a run, one event after another.
+use Rattle.std.proofs.Common.{◌≡◌, ◌<◌, ◌≤◌, ◌+◌, ◌⊎◌, inl, inr, ℕ, List, [], ◌∷◌, ◌++◌, map, length, Option, Some, None, refl, ap, sym, subst, ◌∙◌, arith, append_assoc, append-nil, length-append}
+use Rattle.std.specs.Prelude.{flat_map}
+use Rattle.std.proofs.lemmas.Grind.{flat_map-append}
+use Rattle.std.proofs.lemmas.List.{map-append}
+use Rattle.std.specs.Io.KnownBytes.{Appends}
+use Rattle.tap_base.specs.Lists.{Each}
+use Rattle.tap_base.specs.declared.system.System.{System}
+use Rattle.abstract_run.specs.Answers.{Answers, Serves}
+use Rattle.abstract_run.specs.Meaning.{Meaning, meaning_of}
+use Rattle.abstract_run.specs.Option.{◌>>=◌}
+use Rattle.abstract_run.specs.Run.{AllChooseFirst, state_after}
+use Rattle.abstract_run.specs.Step.{step}
+use Rattle.abstract_run.specs.declared.label.Event.{Event}
+use Rattle.abstract_run.specs.declared.label.Label.{Label}
+use Rattle.abstract_run.specs.declared.state.State.{State}
+use Rattle.tapc_core.specs.Run.{IsRunOf, opening}
+use Rattle.tapc_core.specs.ScheduleText.{IsFirstLine, IsListed, SpellsEvent, event_line, events_text}
+use Rattle.tapc_core.specs.Serving.{Broken, Passed, Progress, Served}
+use Rattle.tapc_core.specs.TraceText.{label_line, label_lines, lines_text, process_names}
+
+-- ---- bytes
+
+pub appends_none : (a : Option (List ℕ)) → Appends a a []
+appends_none None = tt
+appends_none (Some xs) = sym (append-nil xs)
+
+pub appends_more : (a b c : Option (List ℕ)) (xs ys : List ℕ) → Appends a b xs → Appends b c ys → Appends a c (xs ++ ys)
+appends_more None b c xs ys h k = tt
+appends_more (Some a) None c xs ys h k = absurd h
+appends_more (Some a) (Some b) None xs ys h k = absurd k
+appends_more (Some a) (Some b) (Some c) xs ys h k = k ∙ ap (λ zs. zs ++ ys) h ∙ append_assoc a xs ys
+
+-- ---- lists
+
+pub each_more : {A : Type 0} (P : A → Type 0) (xs : List A) (x : A) → Each P xs → P x → Each P (xs ++ x ∷ [])
+each_more P [] x h k = (k, tt)
+each_more P (y ∷ ys) x h k = (h.0, each_more P ys x h.1 k)
+
+pub lines_more : {A : Type 0} (f : A → List ℕ) (xs ys : List A) → lines_text (map f (xs ++ ys)) ≡ lines_text (map f xs) ++ lines_text (map f ys)
+lines_more f xs ys = ap lines_text (map-append f xs ys) ∙ flat_map-append (λ l. l ++ 10 ∷ []) (map f xs) (map f ys)
+
+-- ---- the schedule
+
+event_more : (names : List (List ℕ)) (events : List Event) (e : Event) → events_text names (events ++ e ∷ []) ≡ events_text names events ++ (event_line names e ++ 10 ∷ [])
+event_more names events e = lines_more (event_line names) events (e ∷ []) ∙ ap (λ x. events_text names events ++ x) (append-nil (event_line names e ++ 10 ∷ []))
+
+passed_line : (names : List (List ℕ)) (schedule : List ℕ) (events : List Event) (line tail : List ℕ) (e : Event) → line ≡ event_line names e
+    → schedule ≡ events_text names events ++ (line ++ 10 ∷ tail) → schedule ≡ events_text names (events ++ e ∷ []) ++ tail
+passed_line names schedule events line tail e same h =
+    let done = events_text names events in
+    let here = event_line names e in
+    h ∙ ap (λ l. done ++ (l ++ 10 ∷ tail)) same
+    ∙ sym (ap (λ x. x ++ tail) (event_more names events e) ∙ append_assoc done (here ++ 10 ∷ []) tail ∙ ap (λ x. done ++ x) (append_assoc here (10 ∷ []) tail))
+
+passed_last : (names : List (List ℕ)) (schedule : List ℕ) (events : List Event) (line : List ℕ) (e : Event) → line ≡ event_line names e
+    → schedule ≡ events_text names events ++ line → schedule ++ 10 ∷ [] ≡ events_text names (events ++ e ∷ [])
+passed_last names schedule events line e same h =
+    let done = events_text names events in
+    ap (λ x. x ++ 10 ∷ []) h ∙ append_assoc done line (10 ∷ []) ∙ ap (λ l. done ++ (l ++ 10 ∷ [])) same ∙ sym (event_more names events e)
+
+-- one more line was read
+passed_more : (names : List (List ℕ)) (schedule : List ℕ) (events : List Event) (rest line tail : List ℕ) (e : Event) → (rest ≡ [] → ⊥)
+    → Passed names schedule events rest → IsFirstLine rest line tail → line ≡ event_line names e → Passed names schedule (events ++ e ∷ []) tail
+passed_more names schedule events rest line tail e some (inl h) (inl k) same = inl (passed_line names schedule events line tail e same (h ∙ ap (λ x. events_text names events ++ x) k))
+passed_more names schedule events rest line tail e some (inl h) (inr k) same =
+    inr (k.1, passed_last names schedule events line e same (h ∙ ap (λ x. events_text names events ++ x) k.0))
+passed_more names schedule events rest line tail e some (inr h) k same = absurd (some h.0)
+
+-- a line is taken from a text that is not empty
+pub first_line_taken : (text line rest : List ℕ) → (text ≡ [] → ⊥) → IsFirstLine text line rest → length rest < length text
+first_line_taken text line rest some (inl h) = omega (arith, ap length h, length-append line (10 ∷ rest))
+first_line_taken [] line rest some (inr h) = absurd (some refl)
+first_line_taken (x ∷ xs) line rest some (inr h) = omega (arith, ap length h.1)
+
+-- ---- the run
+
+pub answers_more : (m : Meaning) (s t u : State) (es : List Event) (e : Event) (labels more : List Label)
+    → Answers m s es labels t → Serves m t e more u → Answers m s (es ++ e ∷ []) (labels ++ more) u
+answers_more m s t u [] e labels more h served =
+    (more, [], u, ap (λ xs. xs ++ more) h.0 ∙ sym (append-nil more), subst (λ x. Serves m x e more u) h.1 served, (refl, refl))
+answers_more m s t u (d ∷ es) e labels more h served =
+    (h.0, h.1 ++ more, h.2, ap (λ xs. xs ++ more) h.3 ∙ append_assoc h.0 h.1 more, h.4, answers_more m h.2 t u es e h.1 more h.5 served)
+
+go_on : {A B : Type 0} (o : Option A) (f g : A → Option B) (t u : B) → ((a : A) → f a ≡ Some t → g a ≡ Some u) → (o >>= f) ≡ Some t → (o >>= g) ≡ Some u
+go_on None f g t u go h = cc
+go_on (Some a) f g t u go h = go a h
+
+after_one : {A B : Type 0} (o : Option (A × B)) (f : A → Option A) (t u : A) → (o >>= λ a. f a.0) ≡ Some u → (o >>= λ a. Some a.0) ≡ Some t → f t ≡ Some u
+after_one None f t u h k = cc
+after_one (Some a) f t u h k = cc
+
+pub state_after_more : (m : Meaning) (s t u : State) (xs ys : List Label) → state_after m s xs ≡ Some t → state_after m t ys ≡ Some u → state_after m s (xs ++ ys) ≡ Some u
+state_after_more m s t u [] ys h k = let e : s ≡ t = cc in subst (λ x. state_after m x ys ≡ Some u) (sym e) k
+state_after_more m s t u (l ∷ xs) ys h k =
+    go_on (step m s l) (λ a. state_after m a.0 xs) (λ a. state_after m a.0 (xs ++ ys)) t u (λ a e. state_after_more m a.0 t u xs ys e k) h
+
+pub first_more : (m : Meaning) (s t : State) (xs ys : List Label) → state_after m s xs ≡ Some t → AllChooseFirst m s xs → AllChooseFirst m t ys → AllChooseFirst m s (xs ++ ys)
+first_more m s t [] ys h first more = let e : s ≡ t = cc in subst (λ x. AllChooseFirst m x ys) (sym e) more
+first_more m s t (l ∷ xs) ys h first more =
+    (first.0, λ u e. first_more m u t xs ys (after_one (step m s l) (λ x. state_after m x xs) u t h e) (first.1 u e) more)
+
+pub answered : (m : Meaning) (s t : State) (es : List Event) (labels : List Label) → Answers m s es labels t → state_after m s labels ≡ Some t
+answered m s t [] labels h = ap (state_after m s) h.0 ∙ ap Some (sym h.1)
+answered m s t (e ∷ es) labels h = ap (state_after m s) h.3 ∙ state_after_more m s h.2 t h.0 h.1 h.4.ran (answered m h.2 t es h.1 h.5)
+
+-- ---- progress
+
+pub progress_start : (system : System) (schedule : List ℕ) (before : Option (List ℕ)) → Progress system schedule schedule 1 (opening system) before before []
+progress_start system schedule before = record {
+  events = [];
+  listed = tt;
+  passed = inl refl;
+  count = refl;
+  labels = [];
+  run = record { answers = (refl, refl); first = tt };
+  put = [];
+  told = appends_none before;
+  shown = refl;
+}
+
+pub progress_more : {system : System} {schedule rest line tail : List ℕ} {number : ℕ} {s t : State} {before now : Option (List ℕ)} {page after : List ℕ} {e : Event}
+    → Progress system schedule rest number s before now page → (rest ≡ [] → ⊥) → IsFirstLine rest line tail → SpellsEvent (process_names system) line e
+    → Served system e s t page after → Progress system schedule tail (number + 1) t before now after
+progress_more {system = system} {number = number} {s = s} {t = t} {page = page} {after = after} {e = e} p some first spells served = record {
+  events = p.events ++ e ∷ [];
+  listed = each_more _ p.events e p.listed spells.0;
+  passed = passed_more (process_names system) _ p.events _ _ _ e some p.passed first spells.1;
+  count = omega (arith, p.count, length-append p.events (e ∷ []));
+  labels = p.labels ++ served.labels;
+  run = record {
+    answers = answers_more (meaning_of system) _ s t p.events e p.labels served.labels p.run.answers served.serves;
+    first = first_more (meaning_of system) _ s p.labels served.labels (answered (meaning_of system) _ s p.events p.labels p.run.answers) p.run.first served.first;
+  };
+  put = p.put;
+  told = p.told;
+  shown =
+      ap (λ x. p.put ++ x) served.told ∙ sym (append_assoc p.put page (label_lines (process_names system) served.labels))
+      ∙ ap (λ x. x ++ label_lines (process_names system) served.labels) p.shown ∙ sym (lines_more (label_line (process_names system)) p.labels served.labels);
+}
+
+-- the front of the page was put
+pub progress_moved : {system : System} {schedule rest : List ℕ} {number : ℕ} {s : State} {before middle now : Option (List ℕ)} {page left : List ℕ}
+    → Progress system schedule rest number s before middle page → (put : List ℕ) → Appends middle now put → put ++ left ≡ page
+    → Progress system schedule rest number s before now left
+progress_moved {before = before} {middle = middle} {now = now} {left = left} p put told cut = record {
+  events = p.events;
+  listed = p.listed;
+  passed = p.passed;
+  count = p.count;
+  labels = p.labels;
+  run = p.run;
+  put = p.put ++ put;
+  told = appends_more before middle now p.put put p.told told;
+  shown = append_assoc p.put put left ∙ ap (λ x. p.put ++ x) cut ∙ p.shown;
+}

@@ -1,0 +1,15 @@
+use Rattle.std.proofs.Common.{◌≡◌, ◌+◌, ◌≤◌, length}
+use Rattle.tapc_core.specs.Serving.{IsSteady, Progress}
+use Rattle.tapc_core.proofs.lines.play_lines.Given as goal
+
+abbrev pub invariant-loop-rest : goal.invariant-loop-rest
+invariant-loop-rest g l = record {
+  progress : Progress l.fn.world.system l.schedule l.rest l.number l.world.state (g.O.Sink.written l.fn.out) (g.O.Sink.written l.out) l.page.items;
+  same : l.world.system ≡ l.fn.world.system;
+  steady : IsSteady l.fn.world.system l.world.state;
+  kept : g.O.Sink.faults l.out ≡ g.O.Sink.faults l.fn.out;
+  short : l.number + length l.rest ≤ length l.schedule + 1;
+}
+
+abbrev pub decreases-loop-rest : goal.decreases-loop-rest
+decreases-loop-rest g l = length l.rest

@@ -1,0 +1,27 @@
+use Rattle.std.proofs.Common.{◌≡◌, ◌≢◌, ◌<◌, ◌⊎◌, inl, inr, ◌==◌, false, ℕ, ◌^◌, List, [], ◌∷◌, Result, Ok, Err, length, get_or, refl, sym, ap, subst, ◌∙◌, arith, rules, ne_eqb, IfSome}
+use Rattle.std.specs.Fmt.{decimal}
+use Rattle.std.specs.Result.{result_ok}
+use Rattle.std.specs.Str.Parse.{AllDigits, ParsesUnsigned, digits_value, without_leading_plus}
+use Rattle.std.proofs.lemmas.Fmt.{decimal-digits_value}
+use Rattle.std.proofs.lemmas.Str.Parse.{numerals_by_value, tells_digits}
+use Rattle.tapc_core.specs.ScheduleText.{BeginsNumber}
+use Rattle.tapc_core.proofs.number.parsed.Goals as goal
+
+-- a word that begins a number has no plus in front
+no_plus : (ds : List ℕ) → BeginsNumber ds → (get_or ds 0 0 == 43) ≡ false
+no_plus ds (inl e) = rw e refl
+no_plus ds (inr h) = ne_eqb (get_or ds 0 0) 43 (omega arith)
+
+-- and it has no zero in front of other digits
+alone : (ds : List ℕ) → BeginsNumber ds → get_or ds 0 0 ≡ 48 → length ds ≡ 1
+alone ds (inl e) zero = rw e refl
+alone ds (inr h) zero = absurd (omega arith)
+
+spelled : {E : Type 0} (ds : List ℕ) (r : Result ℕ E) → BeginsNumber ds → ParsesUnsigned 64 10 ds r → IfSome (result_ok r) (λ n. ds ≡ decimal n)
+spelled ds (Err e) begins h = tt
+spelled ds (Ok n) begins h =
+    let k = rw (no_plus ds begins) at h in
+    sym (decimal-digits_value (numerals_by_value _ tells_digits) ds k.0.0.1 k.0.0.0 (alone ds begins) k.0.1) ∙ ap decimal (sym k.1)
+
+pub returns : goal.returns
+returns c = subst (λ o. IfSome o (λ n. c.args.text.now ≡ decimal n)) (sym c.ok.ensures.value) (spelled c.args.text.now _ c.requires c.parse.ensures.value.0)

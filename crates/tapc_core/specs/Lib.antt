@@ -1,0 +1,15 @@
+pub mod Calls
+pub mod Closing
+pub mod Entries
+pub mod MemorySink
+pub mod MemoryStore
+pub mod Output
+pub mod Outside
+pub mod Reading
+pub mod Run
+pub mod ScheduleText
+pub mod Serving
+pub mod Status
+pub mod TraceText
+pub mod Unplayed
+pub mod Words

@@ -1,0 +1,28 @@
+-- The commands that words are.
+use Rattle.std.specs.Prelude.{ℕ, Bool, true, false, ◌&&◌, List, [], ◌∷◌, ◌++◌, Option, Some, None, codes, if◌then◌else◌}
+use Rattle.std.specs.Str.{bytes_eq}
+use Rattle.tapc_core.specs.declared.words.Command.{Command}
+use Rattle.tapc_core.specs.declared.words.Command.TheVariants.{World}
+
+-- a command, by the words that it takes
+pub data Asked : Type 0 where
+  world : (system schedule : List ℕ) → Asked
+
+-- what a command asks for
+abbrev pub asked_by : Command → Asked
+asked_by (World system schedule) = world system.now schedule.now
+
+-- a file word is any word that is not empty
+abbrev pub is_file : List ℕ → Bool
+is_file [] = false
+is_file (c ∷ cs) = true
+
+-- the command that words are, or none
+abbrev pub command_of : List (List ℕ) → Option Asked
+command_of (word ∷ system ∷ schedule ∷ []) =
+    if bytes_eq word (codes "world") && is_file system && is_file schedule then Some (world system schedule) else None
+command_of _ = None
+
+-- the line that is written where the words are no command
+abbrev pub usage_line : List ℕ
+usage_line = codes "usage: tapc check | print | compile | world | node | replay | make | soak" ++ 10 ∷ []

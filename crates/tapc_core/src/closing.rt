@@ -1,0 +1,29 @@
+//! The last bytes of a run, and the status that it ends with.
+
+ghost use Rattle.std.specs.Prelude.{◌≡◌, ◌≢◌, ◌++◌};
+ghost use Rattle.tapc_core.specs.Closing.{Closes};
+ghost use Rattle.tapc_core.specs.Outside.{HasCause, PutAppends};
+ghost use Rattle.tapc_core.specs.Output.{HasSinkCause};
+
+use crate::outside::{Failed, Sink};
+use crate::status::Status;
+
+/// Puts the page and the last lines behind it, and answers the status; where a put fails, `WriteFault`.
+pub fn close<O: Sink>(page: &[u8], last: &[u8], out: &mut O, status: Status) -> Status
+    requires { status ≢ Status.WriteFault }
+    ensures closes { Closes status (page.now ++ last.now) (O.written out.old) (O.written out.new) result }
+    ensures cause { HasSinkCause result (O.faults out.old) (O.faults out.new) }
+{
+    match put_both(page, last, out) {
+        Ok(()) => status,
+        Err(Failed) => Status::WriteFault,
+    }
+}
+
+fn put_both<O: Sink>(page: &[u8], last: &[u8], out: &mut O) -> Result<(), Failed>
+    ensures appends { PutAppends (O.written out.old) (O.written out.new) result (page.now ++ last.now) }
+    ensures cause { HasCause (O.faults out.old) (O.faults out.new) result }
+{
+    out.put(page)?;
+    out.put(last)
+}
