@@ -1,0 +1,35 @@
+//! Standard output.
+
+ghost use Rattle.std.specs.Prelude.{None};
+
+use std::io::Write;
+use tapc_core::{Failed, Sink};
+
+/// Standard output. Nothing is told of what was written. Every error is counted.
+#[derive(Drop)]
+pub struct Output {
+    rt: HostRuntime,
+    faults: u64,
+}
+
+impl Output {
+    pub fn new(rt: HostRuntime) -> Output {
+        Output { rt, faults: 0 }
+    }
+}
+
+impl Sink for Output {
+    ghost written = { λ s. None };
+
+    ghost faults = { λ s. s.faults };
+
+    fn put(&mut self, bytes: &[u8]) -> Result<(), Failed> {
+        match self.rt.stdout().write_all(bytes) {
+            Ok(()) => Ok(()),
+            Err(_) => {
+                self.faults = self.faults.saturating_add(1);
+                Err(Failed)
+            }
+        }
+    }
+}
