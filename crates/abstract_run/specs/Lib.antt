@@ -1,4 +1,6 @@
+pub mod Among
 pub mod Answers
+pub mod Calm
 pub mod Channels
 pub mod Checked
 pub mod CheckedMeaning
@@ -9,10 +11,12 @@ pub mod Execution
 pub mod Fits
 pub mod Meaning
 pub mod Option
-pub mod Quiet
+pub mod Packing
 pub mod Run
+pub mod Spelling
 pub mod State
 pub mod Step
 pub mod Value
 pub mod Worked
 pub mod WorkedRuns
+pub mod WorkedSends

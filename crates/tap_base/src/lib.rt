@@ -4,6 +4,7 @@
 
 mod ast;
 mod bytes;
+mod join;
 mod list;
 mod memory;
 mod place;
@@ -19,6 +20,7 @@ pub use ast::{
     AstProcess, AstScalar, AstStmt, AstTarget, AstType, AstVar, Bound, Ident,
 };
 pub use bytes::Bytes;
+pub use join::Join;
 pub use list::{List, item};
 pub use memory::NoMemory;
 pub use place::{Place, Range};

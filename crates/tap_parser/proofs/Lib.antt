@@ -1,14 +1,38 @@
-pub mod Declarations
+pub mod Actions
+pub mod Atoms
+pub mod Closings
+pub mod Distinct
 pub mod Every
-pub mod Forms
-mod LexTables
-mod LexShapes
-mod LexPieces
-mod LexDigits
-mod LexSteps
-mod LexOne
-mod LexSpans
-pub mod OneReading
+pub mod Guards
+pub mod Messages
+pub mod NameWords
+pub mod NamesOf
 pub mod Outsides
-pub mod Smalls
+pub mod Positions
+pub mod Processes
+pub mod Readings
+pub mod Receivers
+pub mod Sends
+pub mod SeparatedLists
+pub mod Shapes
+pub mod Signs
+pub mod Stmts
 pub mod TokenPlaces
+pub mod ExprStops
+pub mod ExprFronts
+pub mod ExprJoins
+pub mod ExprRules
+pub mod ExprAtoms
+pub mod ExprOne
+pub mod ExprAlike
+pub mod ExprOutcomes
+pub mod ExprLevels
+pub mod ExprKinds
+pub mod ExprWholes
+pub mod ExprDepth
+pub mod ExprPlaced
+pub mod ExprEnds
+pub mod ExprWorked
+pub mod Trees
+pub mod Values
+pub mod Vars

@@ -1,7 +1,12 @@
+pub mod ExprNodes
+pub mod ExprReading
+pub mod ExprSigns
+pub mod Exprs
+pub mod Apart
+pub mod Ends
 pub mod Few
 pub mod Fitting
-pub mod Lexing
 pub mod Named
-pub mod Quiet
 pub mod Reading
+pub mod Scopes
 pub mod Trees

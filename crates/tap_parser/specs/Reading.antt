@@ -27,6 +27,11 @@ pub record IsTaken (s : Sign) (xs : List Lexeme) (at : ℕ) (x : Lexeme) : Type 
   pub stands : Stands xs at x
   pub is : x.sign ≡ s
 
+-- some token with the sign stands at a place
+pub record Begins (s : Sign) (xs : List Lexeme) (at : ℕ) : Type 0 where
+  pub token : Lexeme
+  pub taken : IsTaken s xs at token
+
 -- the token at a place, if it has the sign
 abbrev pub Taken : Sign → List ℕ → List Token → ℕ → Option Token → Type 0
 Taken s text tokens at None = Lacks s (drop at (lexemes text tokens))
@@ -40,16 +45,20 @@ pub data Closed {A : Type 0} (Item : A → List Lexeme → List Lexeme → Type 
 abbrev pub Free : List Lexeme → Type 0
 Free us = Unit {0}
 
--- A form was read from one place to another, and what follows can't carry it on.
-pub record IsRead {A : Type 0} (Item : A → List Lexeme → List Lexeme → Type 0) (Stops : List Lexeme → Type 0) (xs : List Lexeme) (at : ℕ) (found : Found A) : Type 0 where
-  pub within : found.next ≤ length xs
-  pub further : at < found.next
-  pub spelled : Item found.value (drop at xs) (drop found.next xs)
-  pub stops : Stops (drop found.next xs)
-
 -- No such form stands there.
 abbrev pub Never : {A : Type 0} → (A → List Lexeme → List Lexeme → Type 0) → (List Lexeme → Type 0) → List Lexeme → Type 0
 Never {A} Item Stops ts = (a : A) (us : List Lexeme) → Item a ts us → Stops us → ⊥
+
+-- No other such form stands there.
+abbrev pub Only : {A : Type 0} → (A → List Lexeme → List Lexeme → Type 0) → (List Lexeme → Type 0) → List Lexeme → A → List Lexeme → Type 0
+Only {A} Item Stops ts a us = (b : A) (ws : List Lexeme) → Item b ts ws → Stops ws → (b ≡ a) × (ws ≡ us)
+
+-- A form was read from one place to another, and it is the only one behind which nothing can carry it on.
+pub record IsRead {A : Type 0} (Item : A → List Lexeme → List Lexeme → Type 0) (Stops : List Lexeme → Type 0) (xs : List Lexeme) (at : ℕ) (found : Found A) : Type 0 where
+  pub within : found.next ≤ length xs
+  pub further : at ≤ found.next
+  pub spelled : Item found.value (drop at xs) (drop found.next xs)
+  pub only : Only Item Stops (drop at xs) found.value (drop found.next xs)
 
 -- The form that stands at a place, or that none stands there.
 abbrev pub Answers : {A : Type 0} → (A → List Lexeme → List Lexeme → Type 0) → (List Lexeme → Type 0) → List Lexeme → ℕ → Result (Found A) Stop → Type 0

@@ -1,19 +1,19 @@
 //! From a text of the small language to the system that it names.
 
 ghost use Rattle.std.specs.Prelude.{◌≡◌, ◌≤◌, length, IfOk, IfErr};
-ghost use Rattle.tap_base.specs.SmallText.{SmallText, IsOutside, OneSystem};
+ghost use Rattle.tap_base.specs.SmallText.{IsOutside, NamesAreWords, OneSystem, SmallText};
 ghost use Rattle.tap_base.specs.Spans.{AreTexts};
 ghost use Rattle.tap_base.specs.Tokens.{SpellsTokens};
 ghost use Rattle.tap_parser.specs.Named.{IsNamed, IsNameless};
 
 use crate::found::Stop;
-use crate::lexer::{LexFault, lex};
 use crate::limits::is_small;
-use crate::names::{system_named, vars_are_few};
+use crate::names::{counts_are_few, system_named};
 use crate::small::read_tree;
 use crate::source::Source;
 use std::alloc::Global;
 use tap_base::{Ast, NoMemory, System, Token};
+use tap_lexer::{LexFault, lex};
 
 /// Why a text gives no system of the small language.
 #[derive(Clone, Copy, Debug, PartialEq, Eq)]
@@ -75,7 +75,7 @@ fn name_small(alloc: Global, tree: &Ast) -> Result<System, SmallFault>
     ensures system { IfOk result (λ system. IsNamed tree.now system) }
     ensures outside { IfErr result (λ fault. fault ≡ SmallFault.Outside → IsNameless tree.now) }
 {
-    if !vars_are_few(tree.processes.as_slice()) {
+    if !counts_are_few(tree) {
         return Err(SmallFault::Outside);
     }
     let Some(system) = system_named(alloc, tree)? else {
@@ -90,4 +90,9 @@ fn name_small(alloc: Global, tree: &Ast) -> Result<System, SmallFault>
 /// A text names at most one system.
 pub fn one_system()
     ensures { OneSystem }
+{}
+
+/// In a system that a text names, the names of processes have no space and no line feed.
+pub fn names_are_words()
+    ensures { NamesAreWords }
 {}

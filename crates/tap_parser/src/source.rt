@@ -1,13 +1,16 @@
 //! A text with its tokens.
 
-ghost use Rattle.std.specs.Prelude.{◌≡◌, ◌<◌, length, slice_get, slice_range, IfOk, IfSome};
+ghost use Rattle.std.specs.Prelude.{◌≡◌, ◌<◌, length, drop, slice_get, slice_range, true, false, IfOk, IfSome};
+ghost use Rattle.tap_base.specs.Lexeme.{lexeme, lexemes};
+ghost use Rattle.tap_base.specs.SmallGrammar.{ident};
 ghost use Rattle.tap_base.specs.Spans.{AreTexts, IsText};
 ghost use Rattle.tap_base.specs.Words.{sign_of};
-ghost use Rattle.tap_parser.specs.Reading.{Seen, Taken};
+ghost use Rattle.tap_parser.specs.ExprSigns.{Shows};
+ghost use Rattle.tap_parser.specs.Reading.{Seen, Taken, Lacks};
 
-use crate::lexer::sign_of;
 use std::alloc::Global;
-use tap_base::{NoMemory, Sign, Text, Token};
+use tap_base::{Ident, NoMemory, Sign, Text, Token};
+use tap_lexer::sign_of;
 
 /// A text with its tokens, and the allocator of what is read from them.
 #[derive(Clone, Copy)]
@@ -42,8 +45,21 @@ impl Source<'_> {
         }
     }
 
+    /// Whether a token with the sign stands at a place.
+    pub fn shows(&self, at: usize, sign: Sign) -> bool
+        requires { AreTexts self.now.text.now self.now.tokens.now }
+        ensures within { result ≡ true → at < length self.now.tokens.now }
+        ensures there { result ≡ true → Shows sign (lexemes self.now.text.now self.now.tokens.now) at }
+        ensures lacks { result ≡ false → Lacks sign (drop at (lexemes self.now.text.now self.now.tokens.now)) }
+    {
+        match self.token(at) {
+            Some(token) => self.sign(token) == sign,
+            None => false,
+        }
+    }
+
     /// The sign of a token.
-    fn sign(&self, token: Token) -> Sign
+    pub fn sign(&self, token: Token) -> Sign
         requires { IsText self.now.text.now token }
         ensures { result ≡ sign_of token.kind (slice_range self.now.text.now token.start token.end) }
     {
@@ -61,6 +77,17 @@ impl Source<'_> {
         let bytes = &self.text[token.start as usize..token.end as usize];
         Ok(Text {
             items: String::from_utf8_lossy(self.alloc, bytes)?,
+        })
+    }
+
+    /// The bytes of a token as a text, and its place.
+    pub fn ident(&self, token: Token) -> Result<Ident, NoMemory>
+        requires { IsText self.now.text.now token }
+        ensures { IfOk result (λ i. i ≡ ident (lexeme self.now.text.now token)) }
+    {
+        Ok(Ident {
+            text: self.name(token)?,
+            place: token.place,
         })
     }
 }

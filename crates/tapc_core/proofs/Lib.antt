@@ -1,3 +1,4 @@
+pub mod SentLines
 pub mod EntriesHeld
 pub mod FrontRead
 pub mod FrontGiven
@@ -5,3 +6,11 @@ pub mod Outputs
 pub mod Steps
 pub mod Turns
 pub mod Unread
+pub mod Decimals
+pub mod LineLabels
+pub mod LineWords
+pub mod OneTrace
+pub mod ScheduleLines
+pub mod ScheduleBoth
+pub mod Complete
+pub mod Named

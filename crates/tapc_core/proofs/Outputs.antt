@@ -1,19 +1,23 @@
 -- From what was served to what is written.
-use Rattle.std.proofs.Common.{◌≡◌, ◌+◌, ◌⊎◌, inl, inr, ℕ, List, [], ◌∷◌, ◌++◌, length, Option, Some, None, IfSome, refl, ap, sym, subst, ◌∙◌, append_assoc, append-nil}
+use Rattle.std.proofs.Common.{◌≡◌, ◌+◌, ◌<◌, ◌≤◌, ◌⊎◌, inl, inr, ℕ, List, [], ◌∷◌, ◌++◌, length, Option, Some, None, IfSome, refl, ap, sym, subst, ◌∙◌, append_assoc, append-nil, arith}
 use Rattle.std.specs.Io.KnownBytes.{Appends}
 use Rattle.tap_base.specs.Small.{IsSmall}
 use Rattle.tap_base.specs.declared.system.System.{System}
 use Rattle.abstract_run.specs.declared.label.Event.{Event}
 use Rattle.abstract_run.specs.declared.state.State.{State}
 use Rattle.tapc_core.specs.Closing.{Closes, ClosesOr, failed, put}
-use Rattle.tapc_core.specs.Output.{IsBadTrace, IsFrontOfTrace, IsOutput, IsPartOfOutput, IsPlayed, IsTrace, IsUnfinished, IsWritten, Puts, Writes, bad_line, no_memory_line}
-use Rattle.tapc_core.specs.Run.{AreOf, Files, Played}
-use Rattle.tapc_core.specs.ScheduleText.{BeginsSchedule, GoesOnAfter, SpellsSchedule, events_text}
+use Rattle.tapc_core.specs.Output.{IsBadTrace, IsFrontOfTrace, IsOutput, IsPlayed, IsTrace, IsUnfinished, IsWritten, Writes, bad_line, no_memory_line}
+use Rattle.tapc_core.specs.Run.{AreOf, Files, Played, opening}
+use Rattle.tapc_core.specs.ScheduleText.{BeginsBadly, BeginsSchedule, GoesOnAfter, SpellsSchedule, events_text, most_events}
 use Rattle.tapc_core.specs.Serving.{Broken, Passed, Progress}
 use Rattle.tapc_core.specs.TraceText.{end_line, label_lines, process_names, trace_text, var_lines}
+use Rattle.abstract_run.specs.Answers.{Answers}
+use Rattle.abstract_run.specs.Meaning.{Meaning, meaning_of}
+use Rattle.abstract_run.specs.Run.{state_after}
+use Rattle.abstract_run.specs.declared.label.Label.{Label}
 use Rattle.tapc_core.specs.declared.status.Status.{Status}
 use Rattle.tapc_core.specs.declared.status.Status.TheVariants.{Done, Refused, Usage, BadSchedule, ReadFault, WriteFault, LinkFault, NoMemory, NotARun, WorldFull}
-use Rattle.tapc_core.proofs.Steps.{appends_more, appends_none}
+use Rattle.tapc_core.proofs.Steps.{answered, appends_more, appends_none}
 
 -- ---- closing
 
@@ -78,50 +82,66 @@ abbrev played : {system : System} {schedule rest : List ℕ} {number : ℕ} {s :
 played {system = system} {s = s} small of p =
     record { system = system; small = small; spelled = of.spelled; events = p.events; labels = p.labels; last = s; run = p.run }
 
--- what was put, the page, and then more
-shown_with : (done page shown more : List ℕ) → done ++ page ≡ shown → done ++ (page ++ more) ≡ shown ++ more
-shown_with done page shown more h = sym (append_assoc done page more) ∙ ap (λ x. x ++ more) h
+-- nothing is falling at the end of a run
+settled_end : (m : Meaning) (s t : State) (es : List Event) (labels : List Label) → s.falling ≡ None → Answers m s es labels t → t.falling ≡ None
+settled_end m s t [] labels settled h = ap (λ x. x.falling) h.1 ∙ settled
+settled_end m s t (e ∷ es) labels settled h = settled_end m h.2 t es h.1 h.4.settled h.5
+
+-- the lines of a run, its last values and the end are its text
+whole_text : (system : System) (s t : State) (labels : List Label) (lines : List ℕ) → label_lines system s labels ≡ Some lines → state_after (meaning_of system) s labels ≡ Some t → t.falling ≡ None
+    → trace_text system s labels ≡ Some (lines ++ (var_lines system.processes t.stores ++ end_line))
+whole_text system s t labels lines shown ran settled = rw (shown, ran, settled) (ap Some (append_assoc lines (var_lines system.processes t.stores) end_line))
 
 pub trace_output : {system : System} {schedule : List ℕ} {number : ℕ} {s : State} {before now : Option (List ℕ)} {page : List ℕ} {files : Files}
     → IsSmall system → AreOf system schedule files → (p : Progress system schedule [] number s before now page)
     → IsTrace files (p.put ++ (page ++ (var_lines system.processes s.stores ++ end_line)))
-trace_output {system = system} {schedule = schedule} {s = s} {page = page} {files = files} small of p = record {
-  run = played small of p;
-  schedule = of_schedule files.schedule schedule (λ t. SpellsSchedule (process_names system) t p.events)
-      (p.listed, spells_all (process_names system) schedule p.events p.passed) of.schedule_is;
-  is =
-      shown_with p.put page _ (var_lines system.processes s.stores ++ end_line) p.shown
-      ∙ sym (append_assoc (label_lines (process_names system) p.labels) (var_lines system.processes s.stores) end_line);
-}
+trace_output {system = system} {schedule = schedule} {s = s} {page = page} {files = files} small of p =
+    let m = meaning_of system in
+    let answers = p.run.answers in
+    record {
+      run = played small of p;
+      schedule = of_schedule files.schedule schedule (λ t. SpellsSchedule (process_names system) t p.events)
+          (p.listed, spells_all (process_names system) schedule p.events p.passed) of.schedule_is;
+      is =
+          whole_text system (opening system) s p.labels (p.put ++ page) p.shown (answered m (opening system) s p.events p.labels answers) (settled_end m (opening system) s p.events p.labels refl answers)
+          ∙ ap Some (append_assoc p.put page (var_lines system.processes s.stores ++ end_line));
+    }
+
+-- a number above the limit is behind as many events as a schedule may have
+bad_after : {names : List (List ℕ)} (events : List Event) (rest : List ℕ) (number : ℕ) → number ≡ length events + 1 → length events ≤ most_events
+    → (most_events < number) ⊎ BeginsBadly names rest → (length events ≡ most_events) ⊎ BeginsBadly names rest
+bad_after events rest number count few (inl above) = inl (omega (arith, count, few, above))
+bad_after events rest number count few (inr bad) = inr bad
 
 pub bad_output : {system : System} {schedule rest : List ℕ} {number : ℕ} {s : State} {before now : Option (List ℕ)} {page : List ℕ} {files : Files}
-    → IsSmall system → AreOf system schedule files → (rest ≡ [] → ⊥) → (p : Progress system schedule rest number s before now page)
-    → IsBadTrace files (p.put ++ (page ++ bad_line number))
-bad_output {system = system} {schedule = schedule} {rest = rest} {number = number} {page = page} {files = files} small of more p = record {
+    → IsSmall system → AreOf system schedule files → (rest ≡ [] → ⊥) → (most_events < number) ⊎ BeginsBadly (process_names system) rest
+    → (p : Progress system schedule rest number s before now page) → IsBadTrace files (p.put ++ (page ++ bad_line number))
+bad_output {system = system} {schedule = schedule} {rest = rest} {number = number} {page = page} {files = files} small of more bad p = record {
   run = played small of p;
   schedule = of_schedule files.schedule schedule (λ t. GoesOnAfter (process_names system) t p.events)
-      (record { rest = rest; listed = p.listed; split = goes_on (process_names system) schedule rest p.events more p.passed; more = more }) of.schedule_is;
-  is = shown_with p.put page _ (bad_line number) p.shown ∙ ap (λ n. label_lines (process_names system) p.labels ++ bad_line n) p.count;
+      (record { rest = rest; listed = p.listed; split = goes_on (process_names system) schedule rest p.events more p.passed; more = more; bad = bad_after p.events rest number p.count p.listed.few bad }) of.schedule_is;
+  lines = p.put ++ page;
+  shown = p.shown;
+  is = sym (append_assoc p.put page (bad_line number)) ∙ ap (λ n. (p.put ++ page) ++ bad_line n) p.count;
 }
 
 front_output : {system : System} {schedule rest : List ℕ} {number : ℕ} {s : State} {before now : Option (List ℕ)} {page : List ℕ} {files : Files}
-    → IsSmall system → AreOf system schedule files → (p : Progress system schedule rest number s before now page)
-    → IsFrontOfTrace files (label_lines (process_names system) p.labels)
+    → IsSmall system → AreOf system schedule files → (p : Progress system schedule rest number s before now page) → IsFrontOfTrace files (p.put ++ page)
 front_output {system = system} {schedule = schedule} {rest = rest} {files = files} small of p =
     let b = begins (process_names system) schedule rest p.events p.passed in
     record {
       run = played small of p;
       schedule = of_schedule files.schedule schedule (λ t. BeginsSchedule (process_names system) t p.events) (record { listed = p.listed; rest = b.0; split = b.1 }) of.schedule_is;
-      is = refl;
+      is = p.shown;
     }
 
 pub unfinished_output : {system : System} {schedule rest : List ℕ} {number : ℕ} {s : State} {before now : Option (List ℕ)} {page : List ℕ} {files : Files}
     → IsSmall system → AreOf system schedule files → (p : Progress system schedule rest number s before now page)
     → IsUnfinished files (p.put ++ (page ++ no_memory_line))
-unfinished_output {system = system} {page = page} small of p = record {
-  front = label_lines (process_names system) p.labels;
+unfinished_output {page = page} small of p = record {
+  front = p.put ++ page;
   shown = inr (front_output small of p);
-  is = shown_with p.put page _ no_memory_line p.shown;
+  is = sym (append_assoc p.put page no_memory_line);
 }
 
 pub broken_output : {system : System} {schedule : List ℕ} {before now : Option (List ℕ)} {files : Files}
@@ -162,11 +182,11 @@ trace_closes files {schedule = schedule} same still small of p (inr h) =
 
 -- a line is that of no event
 pub bad_closes : (files : Files) {own system : System} {schedule rest : List ℕ} {number : ℕ} {s : State} {before middle now : Option (List ℕ)} {page : List ℕ} {r : Status}
-    → own ≡ system → IsSmall system → AreOf system schedule files → (rest ≡ [] → ⊥) → Progress own schedule rest number s before middle page
-    → ClosesOr BadSchedule (page ++ bad_line number) (page ++ no_memory_line) middle now r → Writes files r before now
-bad_closes files {schedule = schedule} same small of more p (inl h) =
-    closes_behind files p.put p.told (bad_output (subst IsSmall (sym same) small) (subst (λ x. AreOf x schedule files) (sym same) of) more p) h
-bad_closes files {schedule = schedule} same small of more p (inr h) =
+    → own ≡ system → IsSmall system → AreOf system schedule files → (rest ≡ [] → ⊥) → (most_events < number) ⊎ BeginsBadly (process_names own) rest
+    → Progress own schedule rest number s before middle page → ClosesOr BadSchedule (page ++ bad_line number) (page ++ no_memory_line) middle now r → Writes files r before now
+bad_closes files {schedule = schedule} same small of more bad p (inl h) =
+    closes_behind files p.put p.told (bad_output (subst IsSmall (sym same) small) (subst (λ x. AreOf x schedule files) (sym same) of) more bad p) h
+bad_closes files {schedule = schedule} same small of more bad p (inr h) =
     closes_behind files p.put p.told (unfinished_output (subst IsSmall (sym same) small) (subst (λ x. AreOf x schedule files) (sym same) of) p) h
 
 -- memory was refused

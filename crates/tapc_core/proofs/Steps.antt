@@ -1,6 +1,6 @@
 -- What was put and written of a run, one event after another.
-use Rattle.std.proofs.Common.{◌≡◌, ◌<◌, ◌≤◌, ◌+◌, ◌⊎◌, inl, inr, ℕ, List, [], ◌∷◌, ◌++◌, map, length, Option, Some, None, refl, ap, sym, subst, ◌∙◌, arith, append_assoc, append-nil, length-append}
-use Rattle.std.specs.Prelude.{flat_map}
+use Rattle.std.proofs.Common.{◌≡◌, ◌<◌, ◌≤◌, ◌+◌, inl, inr, ℕ, List, [], ◌∷◌, ◌++◌, map, length, Option, Some, None, refl, ap, sym, subst, ◌∙◌, arith, append_assoc, append-nil, length-append, lit≤}
+use Rattle.std.specs.Option.{option_map}
 use Rattle.std.proofs.lemmas.Grind.{flat_map-append}
 use Rattle.std.proofs.lemmas.List.{map-append}
 use Rattle.std.specs.Io.KnownBytes.{Appends}
@@ -14,10 +14,11 @@ use Rattle.abstract_run.specs.Step.{step}
 use Rattle.abstract_run.specs.declared.label.Event.{Event}
 use Rattle.abstract_run.specs.declared.label.Label.{Label}
 use Rattle.abstract_run.specs.declared.state.State.{State}
-use Rattle.tapc_core.specs.Run.{IsRunOf, opening}
-use Rattle.tapc_core.specs.ScheduleText.{IsFirstLine, IsListed, SpellsEvent, event_line, events_text}
-use Rattle.tapc_core.specs.Serving.{Broken, Passed, Progress, Served}
-use Rattle.tapc_core.specs.TraceText.{label_line, label_lines, lines_text, process_names}
+use Rattle.tapc_core.specs.Run.{opening}
+use Rattle.tapc_core.specs.ScheduleText.{AreListed, IsFirstLine, IsListed, SpellsEvent, event_line, events_text, most_events}
+use Rattle.tapc_core.specs.Serving.{Passed, Progress, Served}
+use Rattle.tapc_core.specs.TraceText.{label_lines, lines_text, process_names, step_lines}
+use Rattle.tapc_core.proofs.SentLines.{bound_to}
 
 -- ---- bytes
 
@@ -41,6 +42,10 @@ pub lines_more : {A : Type 0} (f : A → List ℕ) (xs ys : List A) → lines_te
 lines_more f xs ys = ap lines_text (map-append f xs ys) ∙ flat_map-append (λ l. l ++ 10 ∷ []) (map f xs) (map f ys)
 
 -- ---- the schedule
+
+-- one more event of a schedule
+pub listed_more : (n : ℕ) (events : List Event) (e : Event) → AreListed n events → IsListed n e → length events + 1 ≤ most_events → AreListed n (events ++ e ∷ [])
+listed_more n events e h k few = record { each = each_more _ events e h.each k; few = omega (arith, few, length-append events (e ∷ [])) }
 
 event_more : (names : List (List ℕ)) (events : List Event) (e : Event) → events_text names (events ++ e ∷ []) ≡ events_text names events ++ (event_line names e ++ 10 ∷ [])
 event_more names events e = lines_more (event_line names) events (e ∷ []) ∙ ap (λ x. events_text names events ++ x) (append-nil (event_line names e ++ 10 ∷ []))
@@ -95,6 +100,20 @@ state_after_more m s t u [] ys h k = let e : s ≡ t = cc in subst (λ x. state_
 state_after_more m s t u (l ∷ xs) ys h k =
     go_on (step m s l) (λ a. state_after m a.0 xs) (λ a. state_after m a.0 (xs ++ ys)) t u (λ a e. state_after_more m a.0 t u xs ys e k) h
 
+some_append : (front a lines b : List ℕ) → Some (front ++ a) ≡ Some lines → Some (front ++ (a ++ b)) ≡ Some (lines ++ b)
+some_append front a lines b h = ap Some (sym (append_assoc front a b)) ∙ ap (λ o. option_map (λ x. x ++ b) o) h
+
+-- the lines of labels, and then those of more
+pub label_lines_more : (system : System) (s t : State) (xs ys : List Label) (a b : List ℕ) → state_after (meaning_of system) s xs ≡ Some t → label_lines system s xs ≡ Some a → label_lines system t ys ≡ Some b
+    → label_lines system s (xs ++ ys) ≡ Some (a ++ b)
+label_lines_more system s t [] ys a b ran h k = let e : s ≡ t = cc in let none : [] ≡ a = cc in subst (λ x. label_lines system x ys ≡ Some (a ++ b)) (sym e) (subst (λ x. label_lines system t ys ≡ Some (x ++ b)) none k)
+label_lines_more system s t (l ∷ xs) ys a b ran h k =
+    let after = bound_to (step (meaning_of system) s l) _ a h in
+    let here = bound_to (step_lines system l after.0) _ a after.2 in
+    let others = bound_to (label_lines system after.0.0 xs) _ a here.2 in
+    let rest = rw after.1 at ran in
+    rw (after.1, here.1, label_lines_more system after.0.0 t xs ys others.0 b rest others.1 k) (some_append here.0 others.0 a b others.2)
+
 pub first_more : (m : Meaning) (s t : State) (xs ys : List Label) → state_after m s xs ≡ Some t → AllChooseFirst m s xs → AllChooseFirst m t ys → AllChooseFirst m s (xs ++ ys)
 first_more m s t [] ys h first more = let e : s ≡ t = cc in subst (λ x. AllChooseFirst m x ys) (sym e) more
 first_more m s t (l ∷ xs) ys h first more =
@@ -109,7 +128,7 @@ answered m s t (e ∷ es) labels h = ap (state_after m s) h.3 ∙ state_after_mo
 pub progress_start : (system : System) (schedule : List ℕ) (before : Option (List ℕ)) → Progress system schedule schedule 1 (opening system) before before []
 progress_start system schedule before = record {
   events = [];
-  listed = tt;
+  listed = record { each = tt; few = lit≤ tt };
   passed = inl refl;
   count = refl;
   labels = [];
@@ -120,24 +139,26 @@ progress_start system schedule before = record {
 }
 
 pub progress_more : {system : System} {schedule rest line tail : List ℕ} {number : ℕ} {s t : State} {before now : Option (List ℕ)} {page after : List ℕ} {e : Event}
-    → Progress system schedule rest number s before now page → (rest ≡ [] → ⊥) → IsFirstLine rest line tail → SpellsEvent (process_names system) line e
+    → number ≤ most_events → Progress system schedule rest number s before now page → (rest ≡ [] → ⊥) → IsFirstLine rest line tail → SpellsEvent (process_names system) line e
     → Served system e s t page after → Progress system schedule tail (number + 1) t before now after
-progress_more {system = system} {number = number} {s = s} {t = t} {page = page} {after = after} {e = e} p some first spells served = record {
-  events = p.events ++ e ∷ [];
-  listed = each_more _ p.events e p.listed spells.0;
-  passed = passed_more (process_names system) _ p.events _ _ _ e some p.passed first spells.1;
-  count = omega (arith, p.count, length-append p.events (e ∷ []));
-  labels = p.labels ++ served.labels;
-  run = record {
-    answers = answers_more (meaning_of system) _ s t p.events e p.labels served.labels p.run.answers served.serves;
-    first = first_more (meaning_of system) _ s p.labels served.labels (answered (meaning_of system) _ s p.events p.labels p.run.answers) p.run.first served.first;
-  };
-  put = p.put;
-  told = p.told;
-  shown =
-      ap (λ x. p.put ++ x) served.told ∙ sym (append_assoc p.put page (label_lines (process_names system) served.labels))
-      ∙ ap (λ x. x ++ label_lines (process_names system) served.labels) p.shown ∙ sym (lines_more (label_line (process_names system)) p.labels served.labels);
-}
+progress_more {system = system} {number = number} {s = s} {t = t} {page = page} {after = after} {e = e} few p some first spells served =
+    let ran = answered (meaning_of system) _ s p.events p.labels p.run.answers in
+    record {
+      events = p.events ++ e ∷ [];
+      listed = listed_more _ p.events e p.listed spells.0 (omega (arith, p.count, few));
+      passed = passed_more (process_names system) _ p.events _ _ _ e some p.passed first spells.1;
+      count = omega (arith, p.count, length-append p.events (e ∷ []));
+      labels = p.labels ++ served.labels;
+      run = record {
+        answers = answers_more (meaning_of system) _ s t p.events e p.labels served.labels p.run.answers served.serves;
+        first = first_more (meaning_of system) _ s p.labels served.labels ran p.run.first served.first;
+      };
+      put = p.put;
+      told = p.told;
+      shown =
+          label_lines_more system _ s p.labels served.labels (p.put ++ page) served.wrote.lines ran p.shown served.wrote.shown
+          ∙ ap Some (append_assoc p.put page served.wrote.lines ∙ ap (λ x. p.put ++ x) (sym served.wrote.told));
+    }
 
 -- the front of the page was put
 pub progress_moved : {system : System} {schedule rest : List ℕ} {number : ℕ} {s : State} {before middle now : Option (List ℕ)} {page left : List ℕ}
@@ -152,5 +173,5 @@ progress_moved {before = before} {middle = middle} {now = now} {left = left} p p
   run = p.run;
   put = p.put ++ put;
   told = appends_more before middle now p.put put p.told told;
-  shown = append_assoc p.put put left ∙ ap (λ x. p.put ++ x) cut ∙ p.shown;
+  shown = p.shown ∙ ap (λ x. Some (p.put ++ x)) (sym cut) ∙ ap Some (sym (append_assoc p.put put left));
 }

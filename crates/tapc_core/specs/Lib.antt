@@ -3,6 +3,8 @@ pub mod Closing
 pub mod Entries
 pub mod MemorySink
 pub mod MemoryStore
+pub mod Names
+pub mod OneTrace
 pub mod Output
 pub mod Outside
 pub mod Reading

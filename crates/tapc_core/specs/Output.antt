@@ -1,13 +1,15 @@
 -- What the program writes, by the status that it ends with.
-use Rattle.std.specs.Prelude.{◌≡◌, ℕ, ◌+◌, ◌<◌, ◌≤◌, ◌⊎◌, ⊤, List, [], ◌∷◌, ◌++◌, length, codes, IfSome, Option, Some, None}
+use Rattle.std.specs.Prelude.{◌≡◌, ◌≢◌, ℕ, ◌+◌, ◌<◌, ◌≤◌, ◌⊎◌, ⊤, List, [], ◌∷◌, ◌++◌, length, codes, IfSome, Option, Some, None}
 use Rattle.std.specs.Fmt.{decimal}
 use Rattle.std.specs.Io.KnownBytes.{Appends}
-use Rattle.tap_base.specs.SmallText.{IsOutside}
+use Rattle.tap_base.specs.SmallText.{IsOutside, SmallText}
+use Rattle.tap_base.specs.declared.system.System.{System}
+use Rattle.abstract_run.specs.declared.label.Event.{Event}
 use Rattle.tapc_core.specs.Outside.{Rose}
 use Rattle.tapc_core.specs.Reading.{longest_text}
-use Rattle.tapc_core.specs.Run.{Files, IsOfSchedule, Played, lines_of}
+use Rattle.tapc_core.specs.Run.{Files, IsOfSchedule, Played, lines_of, opening}
 use Rattle.tapc_core.specs.ScheduleText.{BeginsSchedule, GoesOnAfter, SpellsSchedule}
-use Rattle.tapc_core.specs.TraceText.{trace_text}
+use Rattle.tapc_core.specs.TraceText.{process_names, trace_text}
 use Rattle.tapc_core.specs.Words.{Asked, world, command_of, usage_line}
 use Rattle.tapc_core.specs.declared.status.Status.{Status}
 use Rattle.tapc_core.specs.declared.status.Status.TheVariants.{Done, Refused, Usage, BadSchedule, ReadFault, WriteFault, NoMemory}
@@ -33,19 +35,21 @@ bad_line n = codes "bad line " ++ decimal n ++ 10 ∷ []
 pub record IsTrace (files : Files) (bytes : List ℕ) : Type 0 where
   pub run : Played files
   pub schedule : IsOfSchedule SpellsSchedule run
-  pub is : bytes ≡ trace_text run.system run.labels run.last
+  pub is : trace_text run.system (opening run.system) run.labels ≡ Some bytes
 
--- The label lines of a run on the lines before one that is none, and the number of that line.
+-- The lines of a run on the lines before one that is none, and the number of that line.
 pub record IsBadTrace (files : Files) (bytes : List ℕ) : Type 0 where
   pub run : Played files
   pub schedule : IsOfSchedule GoesOnAfter run
-  pub is : bytes ≡ lines_of run ++ bad_line (length run.events + 1)
+  pub lines : List ℕ
+  pub shown : lines_of run ≡ Some lines
+  pub is : bytes ≡ lines ++ bad_line (length run.events + 1)
 
--- The label lines of a run on some first lines of the schedule.
+-- The lines of a run on some first lines of the schedule.
 pub record IsFrontOfTrace (files : Files) (bytes : List ℕ) : Type 0 where
   pub run : Played files
   pub schedule : IsOfSchedule BeginsSchedule run
-  pub is : bytes ≡ lines_of run
+  pub is : lines_of run ≡ Some bytes
 
 -- A text is refused: it is too long, or none of the small language.
 abbrev pub IsRefused : List ℕ → Type 0
@@ -56,7 +60,7 @@ pub record IsRefusal (files : Files) (bytes : List ℕ) : Type 0 where
   pub refused : IfSome files.text IsRefused
   pub is : bytes ≡ refused_line
 
--- Nothing, or the label lines of a run on some first lines of the schedule, and that memory was refused.
+-- Nothing, or the lines of a run on some first lines of the schedule, and that memory was refused.
 pub record IsUnfinished (files : Files) (bytes : List ℕ) : Type 0 where
   pub front : List ℕ
   pub shown : (front ≡ []) ⊎ IsFrontOfTrace files front
@@ -150,3 +154,21 @@ IsPlayed _ = ⊥
 abbrev pub IsOfWorld : Status → Type 0
 IsOfWorld Usage = ⊥
 IsOfWorld status = IsAnswer status
+
+-- ---- what is answered without fail
+
+-- Told files whose text names a system, and whose schedule is one of events for it.
+pub record AreValid (files : Files) : Type 0 where
+  pub text : List ℕ
+  pub text_is : files.text ≡ Some text
+  pub schedule : List ℕ
+  pub schedule_is : files.schedule ≡ Some schedule
+  pub system : System
+  pub named : SmallText text system
+  pub events : List Event
+  pub spelled : SpellsSchedule (process_names system) schedule events
+
+-- On valid files a command ends with its trace or for want of memory, where no count of faults rose.
+abbrev pub IsComplete : Option Asked → Files → ℕ → ℕ → ℕ → ℕ → Status → Type 0
+IsComplete asked files store_before store_now sink_before sink_now status =
+    asked ≢ None → AreValid files → (Rose store_before store_now → ⊥) → (Rose sink_before sink_now → ⊥) → (status ≡ Done) ⊎ (status ≡ NoMemory)

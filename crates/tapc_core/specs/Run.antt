@@ -1,5 +1,5 @@
 -- A run of the world on a schedule.
-use Rattle.std.specs.Prelude.{◌≡◌, ℕ, ◌⊎◌, List, [], ◌++◌, map, Option, IfSome}
+use Rattle.std.specs.Prelude.{◌≡◌, ℕ, List, [], map, Option, IfSome}
 use Rattle.tap_base.specs.Small.{IsSmall}
 use Rattle.tap_base.specs.declared.system.System.{System}
 use Rattle.tap_base.specs.declared.system.Inputs.{Inputs}
@@ -46,9 +46,9 @@ pub record Played (files : Files) : Type 0 where
   pub last : State
   pub run : IsRunOf system events labels last
 
--- the lines of the labels of a run
-abbrev pub lines_of : {files : Files} → Played files → List ℕ
-lines_of r = label_lines (process_names r.system) r.labels
+-- the lines of the labels of a run, and of its datagrams
+abbrev pub lines_of : {files : Files} → Played files → Option (List ℕ)
+lines_of r = label_lines r.system (opening r.system) r.labels
 
 -- The schedule is of this kind for the events of a run, where it is told.
 abbrev pub IsOfSchedule : {files : Files} → (List (List ℕ) → List ℕ → List Event → Type 0) → Played files → Type 0

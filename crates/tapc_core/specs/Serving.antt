@@ -1,14 +1,13 @@
 -- How the world serves events, and what was written of them.
-use Rattle.std.specs.Prelude.{◌≡◌, ℕ, ◌+◌, ◌<◌, ◌≤◌, ◌⊎◌, true, List, [], ◌∷◌, ◌++◌, length, slice_get, IfSome, Option, Some, None, Result, Ok, Err}
+use Rattle.std.specs.Prelude.{◌≡◌, ℕ, ◌+◌, ◌<◌, ◌≤◌, ◌⊎◌, Bool, true, false, List, [], ◌∷◌, ◌++◌, length, slice_get, IfSome, Option, Some, None, Result, Ok, Err}
 use Rattle.std.specs.Option.{option_map}
 use Rattle.std.specs.Io.KnownBytes.{Appends}
-use Rattle.tap_base.specs.Lists.{Each}
 use Rattle.tap_base.specs.declared.system.System.{System}
-use Rattle.abstract_run.specs.Answers.{Serves}
+use Rattle.abstract_run.specs.Answers.{Serves, or_void}
 use Rattle.abstract_run.specs.Enabled.{is_enabled}
 use Rattle.abstract_run.specs.Fits.{Fits}
 use Rattle.abstract_run.specs.Meaning.{Meaning, meaning_of}
-use Rattle.abstract_run.specs.Quiet.{IsQuiet}
+use Rattle.abstract_run.specs.Calm.{IsCalm}
 use Rattle.abstract_run.specs.Run.{AllChooseFirst, IsFirst}
 use Rattle.abstract_run.specs.Step.{step}
 use Rattle.abstract_run.specs.declared.label.Event.{Event}
@@ -17,22 +16,37 @@ use Rattle.abstract_run.specs.declared.label.Label.TheVariants as label
 use Rattle.abstract_run.specs.declared.state.Outgoing.{Outgoing}
 use Rattle.abstract_run.specs.declared.state.State.{State}
 use Rattle.tapc_core.specs.Outside.{Rose}
-use Rattle.tapc_core.specs.Run.{IsRunOf}
-use Rattle.tapc_core.specs.ScheduleText.{IsListed, events_text}
-use Rattle.tapc_core.specs.TraceText.{label_line, label_lines, process_names}
+use Rattle.tapc_core.specs.Run.{IsRunOf, opening}
+use Rattle.tapc_core.specs.ScheduleText.{AreListed, BeginsBadly, events_text, most_events}
+use Rattle.tapc_core.specs.TraceText.{label_lines, process_names, step_lines}
 use Rattle.tapc_core.specs.declared.lines.Stop.{Stop}
 use Rattle.tapc_core.specs.declared.lines.Stop.TheVariants as stop
 
--- A state that fits, in which nothing but turns has happened.
+-- A state that fits, in which no fault has happened.
 pub record IsSteady (system : System) (s : State) : Type 0 where
   pub fits : Fits (meaning_of system) s
-  pub quiet : IsQuiet s
+  pub calm : IsCalm s
 
--- One label was done, and its line was written behind a text.
+-- The lines were written behind a text.
+pub record Wrote (expected : Option (List ℕ)) (before after : List ℕ) : Type 0 where
+  pub lines : List ℕ
+  pub shown : expected ≡ Some lines
+  pub told : after ≡ before ++ lines
+
+-- One label was done, and its lines were written behind a text.
 pub record Did (system : System) (l : Label) (old new : State) (before after : List ℕ) : Type 0 where
   pub sends : List Outgoing
   pub ran : step (meaning_of system) old l ≡ Some (new, sends)
-  pub told : after ≡ before ++ label_line (process_names system) l ++ 10 ∷ []
+  pub wrote : Wrote (step_lines system l (new, sends)) before after
+
+-- A label was done where it is possible, and else nothing was.
+abbrev pub Tried : System → Label → State → State → List ℕ → Bool → List ℕ → Type 0
+Tried system l old new before true after = Did system l old new before after
+Tried system l old new before false after = (step (meaning_of system) old l ≡ None) × (new ≡ old) × (after ≡ before)
+
+-- A label was done where it is possible, and else nothing happened.
+abbrev pub DidOrVoid : System → Label → State → State → List ℕ → List ℕ → Type 0
+DidOrVoid system l old new before after = Did system (or_void (meaning_of system) old l) old new before after
 
 -- The label is the first enabled action of a process, or an idle turn where none of so many is enabled.
 pub data IsNext (meaning : Meaning) (s : State) (p actions : ℕ) : Label → Type 0 where
@@ -51,7 +65,7 @@ pub record Served (system : System) (event : Event) (old new : State) (before af
   pub labels : List Label
   pub serves : Serves (meaning_of system) old event labels new
   pub first : AllChooseFirst (meaning_of system) old labels
-  pub told : after ≡ before ++ label_lines (process_names system) labels
+  pub wrote : Wrote (label_lines system old labels) before after
 
 -- The lines of the events were read, and the rest of the schedule is left. The line feed of the last line may be
 -- wanting.
@@ -63,14 +77,14 @@ Passed names schedule events rest =
 -- moment, and then the page, are the lines of their labels.
 pub record Progress (system : System) (schedule rest : List ℕ) (number : ℕ) (s : State) (before now : Option (List ℕ)) (page : List ℕ) : Type 0 where
   pub events : List Event
-  pub listed : Each (IsListed (length (process_names system))) events
+  pub listed : AreListed (length (process_names system)) events
   pub passed : Passed (process_names system) schedule events rest
   pub count : number ≡ length events + 1
   pub labels : List Label
   pub run : IsRunOf system events labels s
   pub put : List ℕ
   pub told : Appends before now put
-  pub shown : put ++ page ≡ label_lines (process_names system) labels
+  pub shown : label_lines system (opening system) labels ≡ Some (put ++ page)
 
 -- A put failed: what was put is a front of the lines of the labels of some first events.
 pub record Broken (system : System) (schedule : List ℕ) (before now : Option (List ℕ)) : Type 0 where
@@ -88,7 +102,8 @@ pub record Broken (system : System) (schedule : List ℕ) (before now : Option (
 -- what playing a schedule leaves: it is served to its end, or a line is none, or memory was refused, or a put failed
 abbrev pub Plays : System → List ℕ → Option (List ℕ) → Result Unit Stop → State → Option (List ℕ) → List ℕ → Type 0
 Plays system schedule before (Ok x) s now page = (number : ℕ) × Progress system schedule [] number s before now page
-Plays system schedule before (Err (stop.BadLine number)) s now page = (rest : List ℕ) × (rest ≡ [] → ⊥) × Progress system schedule rest number s before now page
+Plays system schedule before (Err (stop.BadLine number)) s now page =
+    (rest : List ℕ) × (rest ≡ [] → ⊥) × ((most_events < number) ⊎ BeginsBadly (process_names system) rest) × Progress system schedule rest number s before now page
 Plays system schedule before (Err stop.NoMemory) s now page = (rest : List ℕ) × (number : ℕ) × (t : State) × Progress system schedule rest number t before now page
 Plays system schedule before (Err stop.Failed) s now page = Broken system schedule before now
 

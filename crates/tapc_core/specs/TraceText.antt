@@ -1,12 +1,21 @@
--- The text of a run: a line for each label, the last values of the variables, and the end.
-use Rattle.std.specs.Prelude.{ℕ, ℤ, ◌/◌, ◌%◌, false, List, [], ◌∷◌, ◌++◌, map, flat_map, zip, take, drop, slice_get, unwrap_or, codes}
+-- The text of a run: a line for each label and each datagram that went out, the last values of the variables, and the
+-- end.
+use Rattle.std.specs.Prelude.{ℕ, ℤ, ◌/◌, ◌%◌, ◌-◌, false, List, [], ◌∷◌, ◌++◌, length, map, flat_map, zip, take, drop, slice_get, unwrap_or, codes, Option, Some, None, is_none}
+use Rattle.std.specs.Option.{option_map}
 use Rattle.std.specs.Fmt.{decimal, signed_decimal, digit_glyph}
 use Rattle.tap_base.specs.declared.system.System.{System}
 use Rattle.tap_base.specs.declared.system.Process.{Process}
 use Rattle.tap_base.specs.declared.system.Var.{Var}
 use Rattle.abstract_run.specs.declared.label.Label.{Label}
 use Rattle.abstract_run.specs.declared.label.Label.TheVariants as label
+use Rattle.abstract_run.specs.declared.state.Falling.{Falling}
+use Rattle.abstract_run.specs.declared.state.Outgoing.{Outgoing}
 use Rattle.abstract_run.specs.declared.state.State.{State}
+use Rattle.abstract_run.specs.Meaning.{meaning_of}
+use Rattle.abstract_run.specs.Option.{◌>>=◌, each, provided}
+use Rattle.abstract_run.specs.Run.{state_after}
+use Rattle.abstract_run.specs.Spelling.{spelled}
+use Rattle.abstract_run.specs.Step.{After, step}
 
 -- ---- words
 
@@ -33,7 +42,7 @@ hex_word (b ∷ bs) = flat_map hex_digits (b ∷ bs)
 abbrev pub process_names : System → List (List ℕ)
 process_names system = map (λ p. p.name) system.processes
 
--- the name of a process by its number; no bytes where there is none, which no label of a run names
+-- the name of a process by its number; no bytes where there is none, which no label and no send of a run names
 abbrev pub name_at : List (List ℕ) → ℕ → List ℕ
 name_at names p = unwrap_or (slice_get names p) []
 
@@ -55,9 +64,39 @@ label_line names (label.Stop p receivers) = spaced (codes "stop") (name_at names
 label_line names (label.Down p) = spaced (codes "down") (name_at names p ∷ [])
 label_line names label.Void = codes "void"
 
--- the lines of labels, in order; nothing is sent yet, so no line stands between them
-abbrev pub label_lines : List (List ℕ) → List Label → List ℕ
-label_lines names labels = lines_text (map (label_line names) labels)
+-- ---- datagrams
+
+-- the receivers of the sends that a fallen cut takes back
+abbrev pub taken_back : Option Falling → List ℕ
+taken_back None = []
+taken_back (Some f) = f.receivers
+
+-- the datagrams that went out in a step: all that were sent, but where a cut fell those before the failed one
+abbrev pub went_out : After → List Outgoing
+went_out after = take (length after.1 - length (taken_back after.0.falling)) after.1
+
+-- the line of a datagram with the bytes of its message, without its line feed; none where the message is not declared
+abbrev pub sent_line : System → Outgoing → Option (List ℕ)
+sent_line system o = option_map (λ bytes. spaced (codes "sent") (name_at (process_names system) o.to ∷ hex_word bytes ∷ [])) (spelled (meaning_of system) o.message o.values)
+
+-- the lines of datagrams, in order
+abbrev pub sent_lines : System → List Outgoing → Option (List ℕ)
+sent_lines system sends = option_map lines_text (each (sent_line system) sends)
+
+-- ---- steps
+
+-- the lines of one step: that of its label, and behind it those of the datagrams that went out
+abbrev pub step_lines : System → Label → After → Option (List ℕ)
+step_lines system l after = option_map (λ sents. label_line (process_names system) l ++ 10 ∷ sents) (sent_lines system (went_out after))
+
+-- the lines of labels from a state on, step by step; none where a label is not possible in its turn
+abbrev pub label_lines : System → State → List Label → Option (List ℕ)
+label_lines system s [] = Some []
+label_lines system s (l ∷ ls) = do
+  after ← step (meaning_of system) s l
+  here ← step_lines system l after
+  more ← label_lines system after.0 ls
+  Some (here ++ more)
 
 -- ---- variables
 
@@ -79,6 +118,16 @@ var_lines processes stores = lines_text (flat_map (λ x. vars_of x.0.name x.0.va
 abbrev pub end_line : List ℕ
 end_line = codes "end\n"
 
--- the text of a run: the labels' lines, the last value of each variable, and the end
-abbrev pub trace_text : System → List Label → State → List ℕ
-trace_text system labels last = label_lines (process_names system) labels ++ var_lines system.processes last.stores ++ end_line
+-- the last state of a run, where nothing is falling
+abbrev pub settled_after : System → State → List Label → Option State
+settled_after system s labels = do
+  last ← state_after (meaning_of system) s labels
+  provided (is_none last.falling) last
+
+-- the text of a run from a state on: the lines of its labels, the last value of each variable, and the end; none where
+-- the labels are no run, or something is falling at its end
+abbrev pub trace_text : System → State → List Label → Option (List ℕ)
+trace_text system s labels = do
+  lines ← label_lines system s labels
+  last ← settled_after system s labels
+  Some (lines ++ var_lines system.processes last.stores ++ end_line)

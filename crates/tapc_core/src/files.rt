@@ -4,7 +4,9 @@ ghost use Rattle.std.specs.Prelude.{◌≡◌, ◌≢◌, ◌≤◌, ℕ, List, 
 ghost use Rattle.tap_base.specs.Small.{IsSmall};
 ghost use Rattle.tap_base.specs.SmallText.{IsOutside, SmallText};
 ghost use Rattle.tapc_core.specs.Output.{IsRefused, files_named};
+ghost use Rattle.tapc_core.specs.Names.{AreNames};
 ghost use Rattle.tapc_core.specs.Run.{AreOf};
+ghost use Rattle.tapc_core.specs.TraceText.{process_names};
 ghost use Rattle.tapc_core.specs.Unplayed.{HasReadingCause};
 
 use crate::outside::Store;
@@ -46,6 +48,7 @@ pub fn read_files<S: Store>(
     store: &mut S,
 ) -> Result<(System, List<u8>), Unplayed>
     ensures small { IfOk result (λ r. IsSmall r.0) }
+    ensures named { IfOk result (λ r. AreNames (process_names r.0)) }
     ensures read { IfOk result (λ r. AreOf r.0 r.1 (files_named system.now schedule.now (S.contents store.old))) }
     ensures refused { result ≡ Err Unplayed.Refused → IfSome (S.contents store.old system.now) IsRefused }
     ensures cause { HasReadingCause (S.faults store.old) (S.faults store.new) result }
@@ -61,6 +64,7 @@ pub fn read_files<S: Store>(
 /// Reads the text of a system, and the system that it names.
 fn read_system<S: Store>(alloc: Global, name: &str, store: &mut S) -> Result<System, Unplayed>
     ensures small { IfOk result IsSmall }
+    ensures named { IfOk result (λ s. AreNames (process_names s)) }
     ensures spelled { IfOk result (λ s. IfSome (S.contents store.old name.now) (λ text. SmallText text s)) }
     ensures refused { result ≡ Err Unplayed.Refused → IfSome (S.contents store.old name.now) IsRefused }
     ensures stays { (n : List ℕ) → S.contents store.new n ≡ S.contents store.old n }
@@ -73,9 +77,10 @@ fn read_system<S: Store>(alloc: Global, name: &str, store: &mut S) -> Result<Sys
 }
 
 /// The system that a text names.
-fn named_by(alloc: Global, text: &[u8]) -> Result<System, Unplayed>
+pub fn named_by(alloc: Global, text: &[u8]) -> Result<System, Unplayed>
     requires { length text.now ≤ 1048576 }
     ensures system { IfOk result (λ s. SmallText text.now s) }
+    ensures named { IfOk result (λ s. AreNames (process_names s)) }
     ensures refused { result ≡ Err Unplayed.Refused → IsOutside text.now }
     ensures read { result ≢ Err Unplayed.ReadFault }
 {

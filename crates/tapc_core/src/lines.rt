@@ -1,24 +1,32 @@
 //! The world is played on a schedule.
 
-ghost use Rattle.std.specs.Prelude.{◌≡◌, ◌↔◌, [], OnOk, Ok, Err, Result};
+ghost use Rattle.std.specs.Prelude.{◌≡◌, ◌≤◌, ◌<◌, ◌^◌, ◌⊎◌, [], length, MatchOption, OnSome};
 ghost use Rattle.tap_base.specs.Small.{IsSmall};
+ghost use Rattle.abstract_run.specs.Calm.{cells_in};
 ghost use Rattle.tapc_core.specs.Outside.{HasCause};
 ghost use Rattle.tapc_core.specs.Run.{opening};
+ghost use Rattle.tapc_core.specs.Names.{AreNames};
+ghost use Rattle.tapc_core.specs.ScheduleText.{IsOfNoEvent, SpellsEvent, most_events};
 ghost use Rattle.tapc_core.specs.Serving.{HasPlayCause, IsSteady, Moves, Plays};
+ghost use Rattle.tapc_core.specs.TraceText.{process_names};
 
 use crate::outside::{Failed, Sink};
 use crate::schedule::{first_line, read_event};
 use crate::world::World;
+use abstract_run::Event;
 use std::alloc::Global;
-use tap_base::NoMemory;
+use tap_base::{NoMemory, System};
 
 /// How many bytes are gathered before they are put.
 const PAGE: usize = 4096;
 
+/// How many events a schedule has at most.
+const MOST_EVENTS: u64 = 1_000_000;
+
 /// What stops a run before the end of its schedule.
 #[derive(Clone, Copy, Debug, PartialEq, Eq)]
 pub enum Stop {
-    /// A line of the schedule, counted from 1, is that of no event.
+    /// A line of the schedule, counted from 1, is that of no event, or of one event too many.
     BadLine { number: u64 },
     /// Memory was refused.
     NoMemory,
@@ -58,6 +66,8 @@ pub fn play_lines<O: Sink>(
     requires small { IsSmall world.old.system }
     requires steady { IsSteady world.old.system world.old.state }
     requires opening { world.old.state ≡ opening world.old.system }
+    requires no_cells { cells_in world.old.state ≡ 0 }
+    requires named { AreNames (process_names world.old.system) }
     requires empty { page.old.items ≡ [] }
     ensures plays { Plays world.old.system schedule.now (O.written out.old) result world.new.state (O.written out.new) page.new.items }
     ensures system { world.new.system ≡ world.old.system }
@@ -67,7 +77,7 @@ pub fn play_lines<O: Sink>(
     let mut number = 1;
     while !rest.is_empty() {
         let (line, tail) = first_line(rest);
-        let Some(event) = read_event(line, world.system()) else {
+        let Some(event) = numbered_event(number, line, world.system()) else {
             return Err(Stop::BadLine { number });
         };
         world.serve(alloc, &event, page)?;
@@ -76,6 +86,20 @@ pub fn play_lines<O: Sink>(
         number += 1;
     }
     Ok(())
+}
+
+/// The event of a line of the schedule, counted from 1; none where the line is that of no event, or of
+/// one event too many.
+pub fn numbered_event(number: u64, line: &[u8], system: &System) -> Option<Event>
+    requires named { AreNames (process_names system.now) }
+    requires few { length system.now.processes < 2 ^ 32 }
+    ensures event { MatchOption result ((most_events < number) ⊎ IsOfNoEvent (process_names system.now) line.now) (λ e. SpellsEvent (process_names system.now) line.now e) }
+    ensures within { OnSome result (number ≤ most_events) }
+{
+    if number > MOST_EVENTS {
+        return None;
+    }
+    read_event(line, system)
 }
 
 /// Puts the page where it has some kilobytes.

@@ -1,26 +1,29 @@
 //! A number of a line, read.
 
-ghost use Rattle.std.specs.Prelude.{◌≡◌, ◌↔◌, IsTrue, IfSome};
+ghost use Rattle.std.specs.Prelude.{◌≡◌, ◌↔◌, ◌<◌, ◌^◌, ℕ, Some, IsTrue, IfSome};
 ghost use Rattle.std.specs.Fmt.{decimal};
 ghost use Rattle.tapc_core.specs.ScheduleText.{BeginsNumber};
 
 /// The number that a word writes in decimal, without a sign and without zeros in front; none where
 /// there is none of 64 bits.
 pub fn read_number(word: &[u8]) -> Option<u64>
-    ensures { IfSome result (λ n. word.now ≡ decimal n) }
+    ensures number { IfSome result (λ n. word.now ≡ decimal n) }
+    ensures each { (n : ℕ) → n < 2 ^ 64 → word.now ≡ decimal n → result ≡ Some n }
 {
-    let text = std::str::from_utf8(word).ok()?;
-    if begins_number(word) {
-        parsed(text)
-    } else {
-        None
+    if !begins_number(word) {
+        return None;
+    }
+    match std::str::from_utf8(word) {
+        Ok(text) => parsed(text),
+        Err(_) => None,
     }
 }
 
 /// The number of a text that begins as a number does.
 fn parsed(text: &str) -> Option<u64>
     requires { BeginsNumber text.now }
-    ensures { IfSome result (λ n. text.now ≡ decimal n) }
+    ensures number { IfSome result (λ n. text.now ≡ decimal n) }
+    ensures each { (n : ℕ) → n < 2 ^ 64 → text.now ≡ decimal n → result ≡ Some n }
 {
     text.parse().ok()
 }

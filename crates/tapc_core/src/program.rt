@@ -22,7 +22,7 @@ pub fn run<S: Store, O: Sink>(alloc: Global, words: &[Text], store: &mut S, out:
     ensures refused { result ≡ Status.Refused → spec.Puts (spec.IsRefusal (spec.files_of words.now (S.contents store.old))) (O.written out.old) (O.written out.new) }
     ensures usage { result ≡ Status.Usage → (asked.command_of words.now ≡ None) × spec.Puts (λ bytes. bytes ≡ asked.usage_line) (O.written out.old) (O.written out.new) }
     ensures no_command { asked.command_of words.now ≡ None → (result ≡ Status.Usage) ⊎ (result ≡ Status.WriteFault) }
-    // The lines of the events before the bad line, and its number.
+    // The lines of the events before the first bad line, and its number.
     ensures bad { result ≡ Status.BadSchedule → spec.Puts (spec.IsBadTrace (spec.files_of words.now (S.contents store.old))) (O.written out.old) (O.written out.new) }
     ensures read_fault { result ≡ Status.ReadFault → spec.Puts (λ bytes. bytes ≡ spec.read_fault_line) (O.written out.old) (O.written out.new) }
     // A front of what is written with some status.
@@ -30,6 +30,9 @@ pub fn run<S: Store, O: Sink>(alloc: Global, words: &[Text], store: &mut S, out:
     ensures no_memory { result ≡ Status.NoMemory → spec.Puts (spec.IsUnfinished (spec.files_of words.now (S.contents store.old))) (O.written out.old) (O.written out.new) }
     ensures store_cause { spec.HasStoreCause result (S.faults store.old) (S.faults store.new) }
     ensures sink_cause { spec.HasSinkCause result (O.faults out.old) (O.faults out.new) }
+    // On a text of a system and a schedule of events nothing else is answered but the trace or want of memory, where no
+    // count rose.
+    ensures complete { spec.IsComplete (asked.command_of words.now) (spec.files_of words.now (S.contents store.old)) (S.faults store.old) (S.faults store.new) (O.faults out.old) (O.faults out.new) result }
 {
     obey(alloc, words, store, out)
 }

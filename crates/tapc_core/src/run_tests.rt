@@ -1,11 +1,8 @@
+use super::run_rows::{COUNTER, rows};
 use super::*;
 use std::alloc::Global;
 use std::test::Fail;
 use tap_base::{List, NoMemory, Text};
-
-const COUNTER: &[u8] = b"process a var k : 0..1 begin k = 0 -> k := 1 end";
-
-const EITHER: &[u8] = b"process a var x : 0..2 begin 1 = 1 -> x := 1 [] 1 = 1 -> x := 2 end";
 
 /// The words of a command line.
 fn words_of(alloc: Global, words: &[&str]) -> Result<List<Text>, NoMemory> {
@@ -33,36 +30,8 @@ fn sink_of(alloc: Global) -> Result<MemorySink, NoMemory> {
 
 #[test]
 fn a_run_writes_its_trace(rt: HostRuntime) -> Result<(), Fail> {
-    let rows: [(&[u8], &[u8], Status, &[u8]); 6] = [
-        (
-            COUNTER,
-            b"turn a 0\nturn a 1\n",
-            Status::Done,
-            b"tick a 0\nact a 0\ntick a 1\nidle a\nvar a k 1\nend\n",
-        ),
-        (COUNTER, b"", Status::Done, b"var a k 0\nend\n"),
-        (
-            COUNTER,
-            b"turn a 18446744073709551615",
-            Status::Done,
-            b"tick a 18446744073709551615\nact a 0\nvar a k 1\nend\n",
-        ),
-        (
-            COUNTER,
-            b"turn a 0\nturn b 0\n",
-            Status::BadSchedule,
-            b"tick a 0\nact a 0\nbad line 2\n",
-        ),
-        (
-            EITHER,
-            b"turn a 0\nturn a 0\n",
-            Status::Done,
-            b"tick a 0\nact a 0\ntick a 0\nact a 0\nvar a x 1\nend\n",
-        ),
-        (b"", b"", Status::Refused, b"refused S0 1:1\n"),
-    ];
     let words = words_of(rt.alloc(), &["world", "s", "t"])?;
-    for (system, schedule, status, lines) in rows {
+    for (system, schedule, status, lines) in rows() {
         let mut store = store_of(rt.alloc(), system, schedule)?;
         let mut out = sink_of(rt.alloc())?;
         let answer = run(rt.alloc(), words.as_slice(), &mut store, &mut out);

@@ -107,7 +107,11 @@ fn write_names(text: &mut String, system: &System, processes: &[u32]) -> Result<
 }
 
 /// Appends bytes as hexadecimal digits, or `-` for no bytes.
-fn write_hex(text: &mut String, bytes: &[u8]) -> Result<(), NoMemory>
+///
+/// # Errors
+///
+/// `NoMemory`; the text may then have some of the digits.
+pub fn write_hex(text: &mut String, bytes: &[u8]) -> Result<(), NoMemory>
     ensures { OnOk result (string_bytes text.new ≡ string_bytes text.old ++ hex_word bytes.now) }
 {
     if bytes.is_empty() {

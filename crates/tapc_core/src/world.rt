@@ -1,15 +1,15 @@
 //! The world: the abstract system, which serves one event at a time.
 
-ghost use Rattle.std.specs.Prelude.{◌≡◌, ◌++◌, ◌<◌, Some, IfOk, OnOk, OnErr, length, string_bytes};
+ghost use Rattle.std.specs.Prelude.{◌≡◌, ◌++◌, ◌+◌, ◌<◌, ◌≤◌, Some, IfOk, OnOk, OnErr, length, string_bytes};
 ghost use Rattle.tap_base.specs.Small.{IsSmall};
+ghost use Rattle.abstract_run.specs.Calm.{IsPossible, cells_in};
 ghost use Rattle.abstract_run.specs.Meaning.{meaning_of};
-ghost use Rattle.abstract_run.specs.Quiet.{IsPossible};
 ghost use Rattle.tapc_core.specs.Run.{no_inputs, opening};
 ghost use Rattle.tapc_core.specs.ScheduleText.{IsListed};
-ghost use Rattle.tapc_core.specs.Serving.{Did, IsNextOf, IsSteady, Served, action_count};
+ghost use Rattle.tapc_core.specs.Serving.{Did, DidOrVoid, IsNextOf, IsSteady, Served, Tried, action_count};
 ghost use Rattle.tapc_core.specs.TraceText.{end_line, process_names, var_lines};
 
-use crate::text::write_label;
+use crate::datagrams::write_step;
 use crate::vars::write_all_vars;
 use abstract_run::{Event, Label, State, StepFault, enabled, init, step};
 use std::alloc::Global;
@@ -29,6 +29,7 @@ impl World {
         ensures system { IfOk result (λ w. w.system ≡ system) }
         ensures opening { IfOk result (λ w. w.state ≡ opening system) }
         ensures steady { IfOk result (λ w. IsSteady system w.state) }
+        ensures no_cells { IfOk result (λ w. cells_in w.state ≡ 0) }
     {
         let inputs = no_inputs(alloc, &system)?;
         let state = init(alloc, &system, &inputs)?;
@@ -65,19 +66,37 @@ impl World {
     ) -> Result<(), NoMemory>
         requires small { IsSmall self.old.system }
         requires steady { IsSteady self.old.system self.old.state }
+        requires room { cells_in self.old.state + 128 ≤ 4294967295 }
         requires listed { IsListed (length (process_names self.old.system)) event.now }
         ensures system { self.new.system ≡ self.old.system }
         ensures served { OnOk result (Served self.old.system event.now self.old.state self.new.state page.old.items page.new.items) }
         ensures steady { OnOk result (IsSteady self.old.system self.new.state) }
+        ensures cells { OnOk result (cells_in self.new.state ≤ cells_in self.old.state + 128) }
         ensures page { OnErr result (page.new.items ≡ page.old.items) }
     {
         let mut text = String::new(alloc);
-        match event {
-            Event::Turn { process, reading } => self.turn(alloc, *process, *reading, &mut text)?,
-            _ => unreachable!(),
-        }
+        self.answer(alloc, event, &mut text)?;
         page.extend_from_slice(text.as_bytes())?;
         Ok(())
+    }
+
+    /// Does the labels of an event, and appends their lines.
+    fn answer(&mut self, alloc: Global, event: &Event, text: &mut String) -> Result<(), NoMemory>
+        requires small { IsSmall self.old.system }
+        requires steady { IsSteady self.old.system self.old.state }
+        requires room { cells_in self.old.state + 128 ≤ 4294967295 }
+        requires listed { IsListed (length (process_names self.old.system)) event.now }
+        ensures system { self.new.system ≡ self.old.system }
+        ensures served { OnOk result (Served self.old.system event.now self.old.state self.new.state (string_bytes text.old) (string_bytes text.new)) }
+        ensures steady { IsSteady self.old.system self.new.state }
+        ensures cells { cells_in self.new.state ≤ cells_in self.old.state + 128 }
+    {
+        match event {
+            Event::Turn { process, reading } => self.turn(alloc, *process, *reading, text),
+            Event::Arrive { from, to } => self.arrive(alloc, *from, *to, text),
+            Event::Lose { from, to, place } => self.lose(alloc, *from, *to, *place, text),
+            _ => unreachable!(),
+        }
     }
 
     /// A turn of a process: a reading, and then its first enabled action, or an idle turn.
@@ -90,17 +109,71 @@ impl World {
     ) -> Result<(), NoMemory>
         requires small { IsSmall self.old.system }
         requires steady { IsSteady self.old.system self.old.state }
+        requires room { cells_in self.old.state + 128 ≤ 4294967295 }
         requires there { process < length self.old.system.processes }
         ensures system { self.new.system ≡ self.old.system }
         ensures served { OnOk result (Served self.old.system (Event.Turn process reading) self.old.state self.new.state (string_bytes text.old) (string_bytes text.new)) }
         ensures steady { IsSteady self.old.system self.new.state }
+        ensures cells { cells_in self.new.state ≤ cells_in self.old.state + 128 }
     {
         self.perform(alloc, &Label::Tick { process, reading }, text)?;
         let next = self.next(alloc, process);
         self.perform(alloc, &next, text)
     }
 
-    /// Does a label that is possible, and appends its line.
+    /// An arrival, or nothing where no datagram is in flight.
+    fn arrive(
+        &mut self,
+        alloc: Global,
+        from: u32,
+        to: u32,
+        text: &mut String,
+    ) -> Result<(), NoMemory>
+        requires small { IsSmall self.old.system }
+        requires steady { IsSteady self.old.system self.old.state }
+        ensures system { self.new.system ≡ self.old.system }
+        ensures served { OnOk result (Served self.old.system (Event.Arrive from to) self.old.state self.new.state (string_bytes text.old) (string_bytes text.new)) }
+        ensures steady { IsSteady self.old.system self.new.state }
+        ensures cells { cells_in self.new.state ≤ cells_in self.old.state + 128 }
+    {
+        self.try_label(alloc, &Label::Arrive { from, to }, text)
+    }
+
+    /// The loss of a datagram, or nothing where none is in flight at the place.
+    fn lose(
+        &mut self,
+        alloc: Global,
+        from: u32,
+        to: u32,
+        place: u32,
+        text: &mut String,
+    ) -> Result<(), NoMemory>
+        requires small { IsSmall self.old.system }
+        requires steady { IsSteady self.old.system self.old.state }
+        ensures system { self.new.system ≡ self.old.system }
+        ensures served { OnOk result (Served self.old.system (Event.Lose from to place) self.old.state self.new.state (string_bytes text.old) (string_bytes text.new)) }
+        ensures steady { IsSteady self.old.system self.new.state }
+        ensures cells { cells_in self.new.state ≤ cells_in self.old.state + 128 }
+    {
+        self.try_label(alloc, &Label::Lose { from, to, place }, text)
+    }
+
+    /// Does a label where it is possible, and else nothing; appends the lines of what is done.
+    fn try_label(&mut self, alloc: Global, label: &Label, text: &mut String) -> Result<(), NoMemory>
+        requires small { IsSmall self.old.system }
+        requires steady { IsSteady self.old.system self.old.state }
+        ensures system { self.new.system ≡ self.old.system }
+        ensures did { OnOk result (DidOrVoid self.old.system label.now self.old.state self.new.state (string_bytes text.old) (string_bytes text.new)) }
+        ensures steady { IsSteady self.old.system self.new.state }
+        ensures cells { cells_in self.new.state ≤ cells_in self.old.state + 128 }
+    {
+        if self.attempt(alloc, label, text)? {
+            return Ok(());
+        }
+        self.perform(alloc, &Label::Void, text)
+    }
+
+    /// Does a label that is possible, and appends its lines.
     fn perform(&mut self, alloc: Global, label: &Label, text: &mut String) -> Result<(), NoMemory>
         requires small { IsSmall self.old.system }
         requires steady { IsSteady self.old.system self.old.state }
@@ -108,11 +181,30 @@ impl World {
         ensures system { self.new.system ≡ self.old.system }
         ensures did { OnOk result (Did self.old.system label.now self.old.state self.new.state (string_bytes text.old) (string_bytes text.new)) }
         ensures steady { IsSteady self.old.system self.new.state }
+        ensures cells { cells_in self.new.state ≤ cells_in self.old.state + 64 }
+    {
+        if !self.attempt(alloc, label, text)? {
+            unreachable!();
+        }
+        Ok(())
+    }
+
+    /// Does a label where it is possible, and appends its lines. Answers whether it was possible.
+    fn attempt(&mut self, alloc: Global, label: &Label, text: &mut String) -> Result<bool, NoMemory>
+        requires small { IsSmall self.old.system }
+        requires steady { IsSteady self.old.system self.old.state }
+        ensures system { self.new.system ≡ self.old.system }
+        ensures tried { IfOk result (λ done. Tried self.old.system label.now self.old.state self.new.state (string_bytes text.old) done (string_bytes text.new)) }
+        ensures steady { IsSteady self.old.system self.new.state }
+        ensures cells { cells_in self.new.state ≤ cells_in self.old.state + 64 }
     {
         match step(alloc, &self.system, &mut self.state, label) {
-            Ok(_) => write_label(text, &self.system, label),
+            Ok(sends) => {
+                write_step(alloc, text, &self.system, label, sends.as_slice())?;
+                Ok(true)
+            }
+            Err(StepFault::NotEnabled) => Ok(false),
             Err(StepFault::NoMemory) => Err(NoMemory),
-            Err(StepFault::NotEnabled) => unreachable!(),
         }
     }
 
@@ -148,7 +240,7 @@ impl World {
 }
 
 /// No inputs: an empty list for each process.
-fn no_inputs(alloc: Global, system: &System) -> Result<Inputs, NoMemory>
+pub fn no_inputs(alloc: Global, system: &System) -> Result<Inputs, NoMemory>
     ensures { IfOk result (λ inputs. inputs ≡ no_inputs system.now) }
 {
     let mut of = List::new(alloc);

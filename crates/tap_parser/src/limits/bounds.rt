@@ -1,72 +1,17 @@
-//! Counts, lengths of names, and bounds.
+//! Bounds of variables, and widths of fields.
 
-ghost use Rattle.std.specs.Prelude.{◌↔◌, ◌≤◌, ◌≤ℤ◌, length, IsTrue};
+ghost use Rattle.std.specs.Prelude.{◌↔◌, ◌≤ℤ◌, IsTrue};
 ghost use Rattle.tap_base.specs.Lists.{Each};
-ghost use Rattle.tap_base.specs.Small.{IsShort, IsWithinLimits};
+ghost use Rattle.tap_base.specs.Small.{BoundsAreOrdered, WidthsAreWhole};
+ghost use Rattle.tap_parser.specs.Fitting.{IsWhole};
 
-use tap_base::{Action, Process, Var};
-
-/// Whether no process has too many variables, actions, or statements in an action.
-pub fn are_within_limits(processes: &[Process]) -> bool
-    ensures { IsTrue result ↔ Each IsWithinLimits processes.now }
-{
-    'processes: for process in processes {
-        if !is_within_limits(process) {
-            return false;
-        }
-    }
-    true
-}
-
-fn is_within_limits(process: &Process) -> bool
-    ensures { IsTrue result ↔ IsWithinLimits process.now }
-{
-    process.vars.len() <= 4096
-        && process.actions.len() <= 256
-        && bodies_are_short(process.actions.as_slice())
-}
-
-fn bodies_are_short(actions: &[Action]) -> bool
-    ensures { IsTrue result ↔ Each (λ a. length a.body ≤ 64) actions.now }
-{
-    'actions: for action in actions {
-        if action.body.len() > 64 {
-            return false;
-        }
-    }
-    true
-}
-
-/// Whether no name has more than 64 bytes.
-pub fn names_are_short(processes: &[Process]) -> bool
-    ensures { IsTrue result
-        ↔ Each (λ p. IsShort p.name × Each (λ v. IsShort v.name) p.vars) processes.now }
-{
-    'processes: for process in processes {
-        if process.name.as_str().len() > 64 || !var_names_are_short(process.vars.as_slice()) {
-            return false;
-        }
-    }
-    true
-}
-
-fn var_names_are_short(vars: &[Var]) -> bool
-    ensures { IsTrue result ↔ Each (λ v. IsShort v.name) vars.now }
-{
-    'vars: for var in vars {
-        if var.name.as_str().len() > 64 {
-            return false;
-        }
-    }
-    true
-}
+use tap_base::{Field, System, Var};
 
 /// Whether the low bound of each variable is at most its high bound.
-pub fn bounds_are_ordered(processes: &[Process]) -> bool
-    ensures { IsTrue result
-        ↔ Each (λ p. Each (λ v. v.range.lo ≤ℤ v.range.hi) p.vars) processes.now }
+pub fn bounds_are_ordered(system: &System) -> bool
+    ensures { IsTrue result ↔ BoundsAreOrdered system.now }
 {
-    'processes: for process in processes {
+    'processes: for process in system.processes.as_slice() {
         if !var_bounds_are_ordered(process.vars.as_slice()) {
             return false;
         }
@@ -79,6 +24,29 @@ fn var_bounds_are_ordered(vars: &[Var]) -> bool
 {
     'vars: for var in vars {
         if var.range.lo > var.range.hi {
+            return false;
+        }
+    }
+    true
+}
+
+/// Whether the width of each field is a multiple of 8, from 8 to 56.
+pub fn widths_are_whole(system: &System) -> bool
+    ensures { IsTrue result ↔ WidthsAreWhole system.now }
+{
+    'messages: for message in system.messages.as_slice() {
+        if !fields_are_whole(message.fields.as_slice()) {
+            return false;
+        }
+    }
+    true
+}
+
+fn fields_are_whole(fields: &[Field]) -> bool
+    ensures { IsTrue result ↔ Each IsWhole fields.now }
+{
+    'fields: for field in fields {
+        if field.width < 1 || field.width > 56 || field.width % 8 != 0 {
             return false;
         }
     }

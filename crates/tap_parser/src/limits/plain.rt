@@ -1,27 +1,53 @@
 //! What the small grammar can write, with values that fit.
 
-ghost use Rattle.std.specs.Prelude.{◌↔◌, ◌≡◌, [], length, map, IsTrue};
-ghost use Rattle.tap_base.specs.Interval.{interval_of, IsWithin};
+ghost use Rattle.std.specs.Prelude.{◌↔◌, ◌≡◌, None, IsTrue};
 ghost use Rattle.tap_base.specs.Lists.{Each};
-ghost use Rattle.tap_base.specs.Small.{IsAtom, IsTest, IsLocalGuard, IsPlainTarget, IsPlainAssignment, IsPlainStmt, IsPlainAction, IsPlainVar, IsPlainProcess, IntervalIsWithin, AssignmentFits, StmtFits};
-ghost use Rattle.tap_parser.specs.Fitting.{ActionFits, IsFittingProcess};
+ghost use Rattle.tap_base.specs.Small.{IsPlainGuard, IsPlainMessage, IsPlainVar, IsTest, WidthsAreWhole, received_fields};
+ghost use Rattle.tap_parser.specs.Fitting.{IsFittingAction, IsFittingProcess, cells_of};
 
-use tap_base::{Action, Expr, ExprKind, Guard, Op, Process, Range, Stmt, Target, Var, item};
+use crate::limits::atoms::{Reads, is_atom};
+use crate::limits::stmts::are_plain_stmts;
+use tap_base::{Action, ExprKind, Field, Guard, Message, Op, Process, System, Var, item};
 
-/// Whether each process is one that the small grammar can write, and each value fits its target.
-pub fn are_plain(processes: &[Process]) -> bool
-    ensures { IsTrue result ↔ Each IsFittingProcess processes.now }
+/// Whether each message has fields, none of them with a fixed value.
+pub fn messages_are_plain(messages: &[Message]) -> bool
+    ensures { IsTrue result ↔ Each IsPlainMessage messages.now }
 {
-    'processes: for process in processes {
-        if !is_plain_process(process) {
+    'messages: for message in messages {
+        if message.fields.len() == 0 || !are_free(message.fields.as_slice()) {
             return false;
         }
     }
     true
 }
 
-fn is_plain_process(process: &Process) -> bool
-    ensures { IsTrue result ↔ IsFittingProcess process.now }
+fn are_free(fields: &[Field]) -> bool
+    ensures { IsTrue result ↔ Each (λ f. f.fixed ≡ None) fields.now }
+{
+    'fields: for field in fields {
+        if field.fixed.is_some() {
+            return false;
+        }
+    }
+    true
+}
+
+/// Whether each process is one that the small grammar can write, and each value fits.
+pub fn processes_are_plain(system: &System) -> bool
+    requires { WidthsAreWhole system.now }
+    ensures { IsTrue result ↔ Each (IsFittingProcess system.now) system.now.processes }
+{
+    'processes: for process in system.processes.as_slice() {
+        if !is_plain_process(system, process) {
+            return false;
+        }
+    }
+    true
+}
+
+fn is_plain_process(system: &System, process: &Process) -> bool
+    requires { WidthsAreWhole system.now }
+    ensures { IsTrue result ↔ IsFittingProcess system.now process.now }
 {
     if process.inputs.len() != 0 || process.timers != 0 {
         return false;
@@ -29,7 +55,7 @@ fn is_plain_process(process: &Process) -> bool
     if !are_plain_vars(process.vars.as_slice()) {
         return false;
     }
-    are_plain_actions(process.vars.as_slice(), process.actions.as_slice())
+    are_plain_actions(system, process)
 }
 
 fn are_plain_vars(vars: &[Var]) -> bool
@@ -43,42 +69,55 @@ fn are_plain_vars(vars: &[Var]) -> bool
     true
 }
 
-fn are_plain_actions(vars: &[Var], actions: &[Action]) -> bool
+fn are_plain_actions(system: &System, process: &Process) -> bool
+    requires { WidthsAreWhole system.now }
     ensures { IsTrue result
-        ↔ Each (λ a. IsPlainAction vars.now a × ActionFits vars.now a) actions.now }
+        ↔ Each (IsFittingAction system.now process.now) process.now.actions }
 {
-    'actions: for action in actions {
-        if !is_plain_action(vars, action) {
+    'actions: for action in process.actions.as_slice() {
+        if !is_plain_action(system, process, action) {
             return false;
         }
     }
     true
 }
 
-fn is_plain_action(vars: &[Var], action: &Action) -> bool
-    ensures { IsTrue result ↔ (IsPlainAction vars.now action.now × ActionFits vars.now action.now) }
+fn is_plain_action(system: &System, process: &Process, action: &Action) -> bool
+    requires { WidthsAreWhole system.now }
+    ensures { IsTrue result ↔ IsFittingAction system.now process.now action.now }
 {
-    is_local_guard(vars.len(), &action.guard) && are_plain_stmts(vars, action.body.as_slice())
+    if !is_plain_guard(system, process, &action.guard) {
+        return false;
+    }
+    let reads = Reads {
+        vars: process.vars.as_slice(),
+        fields: received_fields(system.messages.as_slice(), &action.guard),
+    };
+    are_plain_stmts(system, &reads, action.body.as_slice())
 }
 
-fn is_local_guard(cells: usize, guard: &Guard) -> bool
-    ensures { IsTrue result ↔ IsLocalGuard cells guard.now }
+fn is_plain_guard(system: &System, process: &Process, guard: &Guard) -> bool
+    ensures { IsTrue result ↔ IsPlainGuard system.now process.now guard.now }
 {
     match guard {
-        Guard::Local(test) => is_test(cells, &test.kind),
-        _ => false,
+        Guard::Local(test) => is_test(process.vars.as_slice(), &test.kind),
+        Guard::Receive { message, from } => {
+            (*message as usize) < system.messages.len() && (*from as usize) < system.processes.len()
+        }
+        Guard::Timeout { timer: _ } => false,
     }
 }
 
-fn is_test(cells: usize, kind: &ExprKind) -> bool
-    ensures { IsTrue result ↔ IsTest cells kind.now }
+fn is_test(vars: &[Var], kind: &ExprKind) -> bool
+    ensures { IsTrue result ↔ IsTest (cells_of vars.now) kind.now }
 {
     match kind {
         ExprKind::Binary { op, left, right } => {
-            if !is_equality(*op) || !is_atom(cells, &left.get().kind) {
+            let reads = Reads { vars, fields: &[] };
+            if !is_equality(*op) || !is_atom(&reads, &left.get().kind) {
                 return false;
             }
-            is_atom(cells, &right.get().kind)
+            is_atom(&reads, &right.get().kind)
         }
         _ => false,
     }
@@ -90,79 +129,15 @@ fn is_equality(op: Op) -> bool
     op == Op::Eq
 }
 
-fn is_atom(cells: usize, kind: &ExprKind) -> bool
-    ensures { IsTrue result ↔ IsAtom cells kind.now }
+/// The fields of the message that a guard receives.
+fn received_fields<'a>(messages: &'a [Message], guard: &Guard) -> &'a [Field]
+    ensures { result.now ≡ received_fields messages.now guard.now }
 {
-    match kind {
-        ExprKind::Number(_) => true,
-        ExprKind::Cell(cell) => (*cell as usize) < cells,
-        _ => false,
+    let Guard::Receive { message, from: _ } = guard else {
+        return &[];
+    };
+    match item(messages, *message as usize) {
+        Some(message) => message.fields.as_slice(),
+        None => &[],
     }
-}
-
-fn are_plain_stmts(vars: &[Var], body: &[Stmt]) -> bool
-    ensures { IsTrue result
-        ↔ Each (λ s. IsPlainStmt vars.now s × StmtFits (map (λ v. v.range) vars.now) s) body.now }
-{
-    'body: for stmt in body {
-        if !is_plain_stmt(vars, stmt) {
-            return false;
-        }
-    }
-    true
-}
-
-fn is_plain_stmt(vars: &[Var], stmt: &Stmt) -> bool
-    ensures { IsTrue result
-        ↔ (IsPlainStmt vars.now stmt.now × StmtFits (map (λ v. v.range) vars.now) stmt.now) }
-{
-    match stmt {
-        Stmt::Skip => true,
-        Stmt::Assign { targets, values } => {
-            is_plain_assignment(vars, targets.as_slice(), values.as_slice())
-        }
-        _ => false,
-    }
-}
-
-fn is_plain_assignment(vars: &[Var], targets: &[Target], values: &[Expr]) -> bool
-    ensures { IsTrue result
-        ↔ (IsPlainAssignment vars.now targets.now values.now
-        × AssignmentFits (map (λ v. v.range) vars.now) targets.now values.now) }
-{
-    match (targets, values) {
-        ([target], [value]) => is_plain_target(vars, target) && fits(vars, value, target.range),
-        _ => false,
-    }
-}
-
-fn is_plain_target(vars: &[Var], target: &Target) -> bool
-    ensures { IsTrue result ↔ IsPlainTarget vars.now target.now }
-{
-    match vars.get(target.first as usize) {
-        Some(var) => { target.index.is_none() && target.length == 1 && var.range == target.range }
-        None => false,
-    }
-}
-
-/// Whether a value is an atom whose interval lies within a range.
-fn fits(vars: &[Var], value: &Expr, range: Range) -> bool
-    ensures { IsTrue result
-        ↔ (IsAtom (length vars.now) value.now.kind
-        × IntervalIsWithin (interval_of value.now (map (λ v. v.range) vars.now) [] []) range) }
-{
-    match &value.kind {
-        ExprKind::Number(number) => range.lo <= *number && *number <= range.hi,
-        ExprKind::Cell(cell) => match item(vars, *cell as usize) {
-            Some(var) => is_within(var.range, range),
-            None => false,
-        },
-        _ => false,
-    }
-}
-
-fn is_within(inner: Range, outer: Range) -> bool
-    ensures { IsTrue result ↔ IsWithin inner outer }
-{
-    outer.lo <= inner.lo && inner.hi <= outer.hi
 }

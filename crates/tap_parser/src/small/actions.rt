@@ -3,14 +3,14 @@
 ghost use Rattle.tap_base.specs.Lexeme.{lexemes};
 ghost use Rattle.tap_base.specs.SmallGrammar.{IsAction, IsActions, Separated};
 ghost use Rattle.tap_base.specs.Spans.{AreTexts};
-ghost use Rattle.tap_parser.specs.Reading.{Answers, Closed, Free, Lacks};
-ghost use Rattle.tap_parser.specs.Quiet.{Quiet};
+ghost use Rattle.tap_parser.specs.Ends.{EndsBody, EndsActions};
+ghost use Rattle.tap_parser.specs.Reading.{Answers, Closed, Free};
 
 use crate::found::{Found, Stop};
-use crate::small::atoms::read_test;
+use crate::small::guards::read_guard;
 use crate::small::stmts::read_body;
 use crate::source::Source;
-use tap_base::{AstAction, AstGuard, List, Sign};
+use tap_base::{AstAction, List, Sign};
 
 /// The actions of a process, and the `end` behind them.
 pub fn read_actions(source: &Source, at: usize) -> Result<Found<List<AstAction>>, Stop>
@@ -37,7 +37,7 @@ pub fn read_actions(source: &Source, at: usize) -> Result<Found<List<AstAction>>
 /// Actions with `[]` between them.
 fn read_action_list(source: &Source, at: usize) -> Result<Found<List<AstAction>>, Stop>
     requires { AreTexts source.now.text.now source.now.tokens.now }
-    ensures { Answers (Separated IsAction Sign.Box) Quiet
+    ensures { Answers (Separated IsAction Sign.Box) EndsActions
         (lexemes source.now.text.now source.now.tokens.now) at result }
 {
     let first = read_action(source, at)?;
@@ -55,20 +55,20 @@ fn read_action_list(source: &Source, at: usize) -> Result<Found<List<AstAction>>
 /// A guard and the statements behind `->`; the place is that of the first token.
 fn read_action(source: &Source, at: usize) -> Result<Found<AstAction>, Stop>
     requires { AreTexts source.now.text.now source.now.tokens.now }
-    ensures { Answers IsAction (Lacks Sign.Semicolon)
+    ensures { Answers IsAction EndsBody
         (lexemes source.now.text.now source.now.tokens.now) at result }
 {
     let Some(first) = source.token(at) else {
         return Err(Stop::Unspelled);
     };
-    let test = read_test(source, at)?;
-    let Some(_) = source.take(test.next, Sign::Arrow) else {
+    let guard = read_guard(source, at)?;
+    let Some(_) = source.take(guard.next, Sign::Arrow) else {
         return Err(Stop::Unspelled);
     };
-    let body = read_body(source, test.next + 1)?;
+    let body = read_body(source, guard.next + 1)?;
     Ok(Found {
         value: AstAction {
-            guard: AstGuard::Local(test.value),
+            guard: guard.value,
             body: body.value,
             place: first.place,
         },

@@ -4,10 +4,12 @@ ghost use Rattle.std.specs.Prelude.{◌≡◌, [], ◌∷◌, None, IfOk};
 ghost use Rattle.tap_base.specs.Lexeme.{lexemes};
 ghost use Rattle.tap_base.specs.SmallGrammar.{IsStmt, Separated};
 ghost use Rattle.tap_base.specs.Spans.{AreTexts};
-ghost use Rattle.tap_parser.specs.Reading.{Answers, Free, Lacks};
+ghost use Rattle.tap_parser.specs.Ends.{EndsBody};
+ghost use Rattle.tap_parser.specs.Reading.{Answers, Lacks};
 
 use crate::found::{Found, Stop};
 use crate::small::atoms::read_atom;
+use crate::small::sends::read_send;
 use crate::source::Source;
 use std::alloc::Global;
 use tap_base::{AstExpr, AstStmt, AstTarget, Ident, List, NoMemory, Sign};
@@ -15,7 +17,7 @@ use tap_base::{AstExpr, AstStmt, AstTarget, Ident, List, NoMemory, Sign};
 /// Statements with `;` between them.
 pub fn read_body(source: &Source, at: usize) -> Result<Found<List<AstStmt>>, Stop>
     requires { AreTexts source.now.text.now source.now.tokens.now }
-    ensures { Answers (Separated IsStmt Sign.Semicolon) (Lacks Sign.Semicolon)
+    ensures { Answers (Separated IsStmt Sign.Semicolon) EndsBody
         (lexemes source.now.text.now source.now.tokens.now) at result }
 {
     let first = read_stmt(source, at)?;
@@ -30,16 +32,20 @@ pub fn read_body(source: &Source, at: usize) -> Result<Found<List<AstStmt>>, Sto
     Ok(Found { value, next })
 }
 
-/// `skip`, or an atom assigned to a name.
+/// `skip`, a send, or an atom assigned to a name.
 fn read_stmt(source: &Source, at: usize) -> Result<Found<AstStmt>, Stop>
     requires { AreTexts source.now.text.now source.now.tokens.now }
-    ensures { Answers IsStmt Free (lexemes source.now.text.now source.now.tokens.now) at result }
+    ensures { Answers IsStmt (Lacks Sign.Dot)
+        (lexemes source.now.text.now source.now.tokens.now) at result }
 {
     if let Some(_) = source.take(at, Sign::Skip) {
         return Ok(Found {
             value: AstStmt::Skip,
             next: at + 1,
         });
+    }
+    if let Some(_) = source.take(at, Sign::Send) {
+        return read_send(source, at);
     }
     let Some(name) = source.take(at, Sign::Name) else {
         return Err(Stop::Unspelled);
@@ -48,10 +54,7 @@ fn read_stmt(source: &Source, at: usize) -> Result<Found<AstStmt>, Stop>
         return Err(Stop::Unspelled);
     };
     let value = read_atom(source, at + 2)?;
-    let target = Ident {
-        text: source.name(name)?,
-        place: name.place,
-    };
+    let target = source.ident(name)?;
     Ok(Found {
         value: assignment(source.alloc, target, value.value)?,
         next: value.next,

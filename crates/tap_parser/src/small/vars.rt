@@ -7,7 +7,7 @@ ghost use Rattle.tap_parser.specs.Reading.{Answers, Closed, Free, Lacks};
 
 use crate::found::{Found, Stop};
 use crate::source::Source;
-use tap_base::{AstScalar, AstType, AstVar, Bound, Ident, List, Sign};
+use tap_base::{AstScalar, AstType, AstVar, Bound, List, Sign};
 
 /// The variables of a process, if it has some, and the `begin` behind them.
 pub fn read_vars(source: &Source, at: usize) -> Result<Found<List<AstVar>>, Stop>
@@ -74,10 +74,7 @@ fn read_var(source: &Source, at: usize) -> Result<Found<AstVar>, Stop>
     };
     Ok(Found {
         value: AstVar {
-            name: Ident {
-                text: source.name(name)?,
-                place: name.place,
-            },
+            name: source.ident(name)?,
             kind: AstType::Scalar(AstScalar::Between {
                 lo: Bound::Number(lo.value),
                 hi: Bound::Number(hi.value),

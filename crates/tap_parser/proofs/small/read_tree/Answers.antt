@@ -1,17 +1,12 @@
-use Rattle.std.proofs.Common.{◌∙◌, ap, [], ◌∷◌, ◌++◌, arith}
-use Rattle.std.proofs.lemmas.List.{length-map}
-use Rattle.tap_base.specs.Lexeme.{lexeme, lexemes}
-use Rattle.tap_parser.proofs.Declarations.{tree_first, tree_more, tree_found, tree_refused_more}
+use Rattle.tap_parser.proofs.Trees.{refused_messages, refused_processes, tree_found}
+use Rattle.tap_base.specs.Lexeme.{lexemes}
 use Rattle.tap_parser.proofs.small.read_tree.Goals as goal
 
-pub processes-init : goal.processes-init
-processes-init c = tree_first (lexemes c.args.source.now.text.now c.args.source.now.tokens.now) c.in_ok-first.first c.push.new.self (c.in_ok-push.ensures.ok ∙ ap (λ k. k ++ c.in_ok-first.first.value ∷ []) c.new-processes.ensures) c.in_ok-first.ensures
+pub returns-in_err-messages : goal.returns-in_err-messages
+returns-in_err-messages c = refused_messages (lexemes c.args.source.now.text.now c.args.source.now.tokens.now) _ _ c.from_residual.ensures.1 c.in_err-messages.ensures
 
-pub returns-in_err-process : goal.returns-in_err-process
-returns-in_err-process c = tree_refused_more (lexemes c.args.source.now.text.now c.args.source.now.tokens.now) (record { value = c.processes.processes; next = c.processes.next }) _ _ c.from_residual-in_err-process.ensures.1 c.processes.invariant (let t = c.processes-test.true in omega (arith, length-map c.args.source.now.tokens.now (lexeme c.args.source.now.text.now))) c.in_err-process.ensures
-
-pub processes-preserved : goal.processes-preserved
-processes-preserved c = tree_more (lexemes c.args.source.now.text.now c.args.source.now.tokens.now) (record { value = c.processes.processes; next = c.processes.next }) c.in_ok-process.process c.push-in-processes.new.self c.processes.invariant c.in_ok-process.ensures c.in_ok-push-2.ensures.ok
+pub returns-in_err-processes : goal.returns-in_err-processes
+returns-in_err-processes c = refused_processes (lexemes c.args.source.now.text.now c.args.source.now.tokens.now) c.in_ok-messages.messages _ _ c.in_ok-messages.ensures c.from_residual-in_err-processes.ensures.1 c.in_err-processes.ensures
 
 pub returns : goal.returns
-returns c = tree_found (lexemes c.args.source.now.text.now c.args.source.now.tokens.now) (record { value = c.processes.processes; next = c.processes.next }) _ c.processes.invariant (let t = c.processes-test.false in omega (arith, length-map c.args.source.now.tokens.now (lexeme c.args.source.now.text.now))) (ap (λ k. record { messages = k; processes = c.processes.processes }) c.new.ensures)
+returns c = tree_found (lexemes c.args.source.now.text.now c.args.source.now.tokens.now) c.in_ok-messages.messages c.in_ok-processes.processes c.in_ok-messages.ensures c.in_ok-processes.ensures

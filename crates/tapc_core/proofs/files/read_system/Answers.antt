@@ -1,4 +1,4 @@
-use Rattle.std.proofs.Common.{◌≡◌, ◌∙◌, List, ℕ, Option, Some, None, IfSome, inl, inr, subst, sym}
+use Rattle.std.proofs.Common.{◌≡◌, List, ℕ, Option, Some, None, IfSome, inr, subst}
 use Rattle.tap_base.specs.SmallText.{IsOutside}
 use Rattle.tapc_core.specs.Output.{IsRefused}
 use Rattle.tapc_core.specs.Reading.{ReadsText, ReadsWhole}

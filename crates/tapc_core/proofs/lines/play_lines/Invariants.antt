@@ -1,4 +1,6 @@
-use Rattle.std.proofs.Common.{◌≡◌, ◌+◌, ◌≤◌, length}
+use Rattle.std.proofs.Common.{◌≡◌, ◌+◌, ◌*◌, ◌≤◌, length}
+use Rattle.abstract_run.specs.Calm.{cells_in}
+use Rattle.tapc_core.specs.ScheduleText.{most_events}
 use Rattle.tapc_core.specs.Serving.{IsSteady, Progress}
 use Rattle.tapc_core.proofs.lines.play_lines.Given as goal
 
@@ -8,6 +10,8 @@ invariant-loop-rest g l = record {
   same : l.world.system ≡ l.fn.world.system;
   steady : IsSteady l.fn.world.system l.world.state;
   kept : g.O.Sink.faults l.out ≡ g.O.Sink.faults l.fn.out;
+  cells : cells_in l.world.state + 128 ≤ 128 * l.number;
+  counted : l.number ≤ most_events + 1;
   short : l.number + length l.rest ≤ length l.schedule + 1;
 }
 

@@ -1,8 +1,8 @@
-use Rattle.std.proofs.Common.{◌≡◌, ◌≢◌, ◌<◌, ◌⊎◌, inl, inr, ◌==◌, false, ℕ, ◌^◌, List, [], ◌∷◌, Result, Ok, Err, length, get_or, refl, sym, ap, subst, ◌∙◌, arith, rules, ne_eqb, IfSome}
+use Rattle.std.proofs.Common.{◌≡◌, inl, inr, ◌==◌, false, ℕ, List, Result, Ok, Err, length, get_or, refl, sym, ap, subst, ◌∙◌, arith, ne_eqb, IfSome}
 use Rattle.std.specs.Fmt.{decimal}
 use Rattle.std.specs.Result.{result_ok}
-use Rattle.std.specs.Str.Parse.{AllDigits, ParsesUnsigned, digits_value, without_leading_plus}
-use Rattle.std.proofs.lemmas.Fmt.{decimal-digits_value}
+use Rattle.std.specs.Str.Parse.{ParsesUnsigned}
+use Rattle.std.proofs.lemmas.Fmt.{decimal-digits_value, parse-decimal}
 use Rattle.std.proofs.lemmas.Str.Parse.{numerals_by_value, tells_digits}
 use Rattle.tapc_core.specs.ScheduleText.{BeginsNumber}
 use Rattle.tapc_core.proofs.number.parsed.Goals as goal
@@ -23,5 +23,8 @@ spelled ds (Ok n) begins h =
     let k = rw (no_plus ds begins) at h in
     sym (decimal-digits_value (numerals_by_value _ tells_digits) ds k.0.0.1 k.0.0.0 (alone ds begins) k.0.1) ∙ ap decimal (sym k.1)
 
-pub returns : goal.returns
-returns c = subst (λ o. IfSome o (λ n. c.args.text.now ≡ decimal n)) (sym c.ok.ensures.value) (spelled c.args.text.now _ c.requires c.parse.ensures.value.0)
+pub returns-clause-number : goal.returns-clause-number
+returns-clause-number c = subst (λ o. IfSome o (λ n. c.args.text.now ≡ decimal n)) (sym c.ok.ensures.value) (spelled c.args.text.now _ c.requires c.parse.ensures.value.0)
+
+pub returns-clause-each : goal.returns-clause-each
+returns-clause-each c n h e = c.ok.ensures.value ∙ ap result_ok (parse-decimal 64 n c.args.text.now _ h h e c.parse.ensures.value.0)

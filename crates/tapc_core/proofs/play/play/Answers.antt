@@ -1,6 +1,6 @@
-use Rattle.std.proofs.Common.{refl, subst, sym}
+use Rattle.std.proofs.Common.{subst, sym}
 use Rattle.tapc_core.specs.Run.{AreOf}
-use Rattle.tapc_core.proofs.Outputs.{closes_alone, closes_played, refused_memory}
+use Rattle.tapc_core.proofs.Outputs.{closes_alone, refused_memory}
 use Rattle.tapc_core.proofs.play.play.Goals as goal
 
 pub returns-in-Err-clause-writes : goal.returns-in-Err-clause-writes

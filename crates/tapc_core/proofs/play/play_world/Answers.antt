@@ -9,7 +9,7 @@ returns-in-Ok-clause-writes g c = λ files of.
 pub returns-in-Err-BadLine-clause-writes : goal.returns-in-Err-BadLine-clause-writes
 returns-in-Err-BadLine-clause-writes g c = λ files of.
     let h = rw c.in-Err-BadLine.field-0-is at c.in-Err-BadLine.ensures.plays in
-    bad_closes files refl c.requires.small of h.1 (on_page c.as_slice-in-Err-BadLine.ensures.value h.2) c.close_bad.ensures.closes
+    bad_closes files refl c.requires.small of h.1 h.2 (on_page c.as_slice-in-Err-BadLine.ensures.value h.3) c.close_bad.ensures.closes
 
 pub returns-in-Err-NoMemory-clause-writes : goal.returns-in-Err-NoMemory-clause-writes
 returns-in-Err-NoMemory-clause-writes g c = λ files of.

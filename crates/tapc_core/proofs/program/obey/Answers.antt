@@ -1,5 +1,5 @@
-use Rattle.std.proofs.Common.{◌≡◌, ◌∙◌, Some, ap, refl, sym, subst}
-use Rattle.tapc_core.specs.Output.{IsUsage, Writes, asked_files}
+use Rattle.std.proofs.Common.{◌∙◌, Some, ap, sym, subst}
+use Rattle.tapc_core.specs.Output.{Writes, asked_files}
 use Rattle.tapc_core.proofs.Outputs.{closes_alone}
 use Rattle.tapc_core.proofs.program.obey.Goals as goal
 

@@ -3,6 +3,7 @@ use Rattle.tapc_core.specs.Output.{IsUsage, Writes, files_of}
 use Rattle.tapc_core.specs.Words.{Asked}
 use Rattle.tapc_core.specs.declared.status.Status.{Status}
 use Rattle.tapc_core.specs.declared.status.Status.TheVariants.{Done, Refused, Usage, BadSchedule, ReadFault, WriteFault, NoMemory}
+use Rattle.tapc_core.proofs.Complete.{complete}
 use Rattle.tapc_core.proofs.program.run.Given.{Over}
 use Rattle.tapc_core.proofs.program.run.Goals as goal
 use Rattle.tapc_core.proofs.program.run.Goals.{After-obey}
@@ -41,3 +42,8 @@ returns-clause-write_fault g c = λ e. ended g c WriteFault e
 
 pub returns-clause-no_memory : goal.returns-clause-no_memory
 returns-clause-no_memory g c = λ e. ended g c NoMemory e
+
+pub returns-clause-complete : goal.returns-clause-complete
+returns-clause-complete g c =
+    complete _ _ (g.S.Store.faults c.args.store.now) (g.S.Store.faults c.obey.new.store) (g.O.Sink.faults c.args.out.now) (g.O.Sink.faults c.obey.new.out) (g.O.Sink.written c.args.out.now)
+    (g.O.Sink.written c.obey.new.out) c.obey.result c.obey.ensures.answer c.obey.ensures.usage c.obey.ensures.writes c.obey.ensures.store_cause c.obey.ensures.sink_cause

@@ -1,5 +1,4 @@
-use Rattle.std.proofs.Common.{◌≡◌, ◌∙◌, ap, refl, subst, sym, Err, rules}
-use Rattle.tapc_core.specs.Run.{AreOf}
+use Rattle.std.proofs.Common.{ap, refl, Err, rules}
 use Rattle.tapc_core.proofs.Outputs.{closes_alone, refused_memory}
 use Rattle.tapc_core.proofs.program.world.Goals as goal
 

@@ -1,8 +1,8 @@
-use Rattle.std.proofs.Common.{◌≡◌, ◌++◌, ℕ, List, [], min, length, drop, zip, refl, ap, sym, ◌∙◌, arith, rules, append-nil, length-drop, string_bytes}
+use Rattle.std.proofs.Common.{◌≡◌, ◌++◌, ℕ, List, [], min, length, drop, zip, ap, sym, ◌∙◌, arith, rules, append-nil, length-drop, string_bytes}
 use Rattle.std.proofs.lemmas.List.{nil_from_length}
 use Rattle.std.proofs.lemmas.Slice.Zip.{length-zip, zip_end}
 use Rattle.tap_base.specs.declared.system.Process.{Process}
-use Rattle.tapc_core.specs.TraceText.{lines_text, var_lines, vars_of}
+use Rattle.tapc_core.specs.TraceText.{var_lines}
 use Rattle.tapc_core.proofs.vars.write_all_vars.Goals as goal
 
 -- no pair is left where one of the lists is at its end

@@ -1,6 +1,7 @@
 use Rattle.std.proofs.Common.{drop, map}
 use Rattle.std.specs.Prelude.{◌↔◌}
-use Rattle.tap_base.specs.Lists.{Each, AreDistinct}
+use Rattle.tap_base.specs.Lists.{Each}
+use Rattle.tap_base.specs.Lists.{AreDistinct}
 use Rattle.tap_parser.proofs.limits.distinct.var_names_are_distinct.Given as goal
 
 abbrev pub invariant-processes : goal.invariant-processes

@@ -1,12 +1,13 @@
 use Rattle.std.proofs.Common.{◌-◌, length}
 use Rattle.tap_base.specs.declared.token.Sign.TheVariants as sign
 use Rattle.tap_base.specs.Lexeme.{lexemes}
-use Rattle.tap_base.specs.SmallGrammar.{Separated, IsAction}
-use Rattle.tap_parser.specs.Reading.{IsRead, Lacks}
+use Rattle.tap_base.specs.SmallGrammar.{IsAction}
+use Rattle.tap_parser.specs.Ends.{EndsActions}
+use Rattle.tap_parser.proofs.SeparatedLists.{ListRead}
 use Rattle.tap_parser.proofs.small.actions.read_action_list.Given as goal
 
 abbrev pub invariant-actions : goal.invariant-actions
-invariant-actions l = IsRead (Separated IsAction sign.Box) (Lacks sign.Semicolon) (lexemes l.source.text.now l.source.tokens.now) l.at (record { value = l.value; next = l.next })
+invariant-actions l = ListRead IsAction sign.Box EndsActions (lexemes l.source.text.now l.source.tokens.now) l.at (record { value = l.value; next = l.next })
 
 abbrev pub decreases-actions : goal.decreases-actions
 decreases-actions l = length l.source.tokens.now - l.next

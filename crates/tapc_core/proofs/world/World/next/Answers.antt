@@ -1,4 +1,4 @@
-use Rattle.std.proofs.Common.{◌≡◌, ℕ, ℤ, true, List, [], Option, Some, IfSome, sym, subst, ◌∙◌, arith}
+use Rattle.std.proofs.Common.{◌≡◌, ℕ, ℤ, true, List, [], Some, IfSome, sym, subst, ◌∙◌, arith}
 use Rattle.abstract_run.specs.Enabled.{is_enabled}
 use Rattle.abstract_run.specs.Meaning.{Meaning, meaning_of}
 use Rattle.abstract_run.specs.Run.{IsFirst}

@@ -1,0 +1,90 @@
+"""Each limit of the language, at its border on both sides, over the built program.
+
+A text at the border is accepted: with an empty schedule its variables and the end are written. One step
+further it is refused. Exits with the number of texts that were answered otherwise.
+"""
+import os
+import subprocess
+import sys
+import tempfile
+
+REFUSED = b"refused S0 1:1\n"
+
+
+def names(front, count):
+    return [f"{front}{i}" for i in range(count)]
+
+
+def processes(count):
+    return "\n".join(f"process {name} begin end" for name in names("p", count))
+
+
+def messages(count):
+    return "\n".join(f"message {name} begin f : 8 bits end" for name in names("m", count)) + " process a begin end"
+
+
+def fields(widths):
+    listed = "; ".join(f"f{i} : {width} bits" for i, width in enumerate(widths))
+    return f"message m begin {listed} end process a begin end"
+
+
+def actions(count):
+    return "process a begin " + " [] ".join(["0 = 1 -> skip"] * count) + " end"
+
+
+def variables(count):
+    return "process a var " + "; ".join(f"{name} : 0..1" for name in names("v", count)) + " begin end"
+
+
+def statements(count):
+    return "process a begin 0 = 1 -> " + "; ".join(["skip"] * count) + " end"
+
+
+def name(length):
+    return "process " + "n" * length + " begin end"
+
+
+def size(length):
+    text = "process a begin end #"
+    return text + "x" * (length - len(text))
+
+
+# 146 fields of 56 bits and one of 16 are 8,192 bits.
+LIMITS = [
+    ("processes", processes(64), processes(65)),
+    ("messages", messages(256), messages(257)),
+    ("fields of a message", fields([8] * 256), fields([8] * 257)),
+    ("bits of a message", fields([56] * 146 + [16]), fields([56] * 146 + [24])),
+    ("bits of a field", fields([56]), fields([64])),
+    ("actions of a process", actions(256), actions(257)),
+    ("variables of a process", variables(4096), variables(4097)),
+    ("statements of an action", statements(64), statements(65)),
+    ("bytes of a name", name(64), name(65)),
+    ("bytes of a text", size(1048576), size(1048577)),
+]
+
+
+def answer(folder, text):
+    system = os.path.join(folder, "system.tap")
+    with open(system, "w") as file:
+        file.write(text)
+    done = subprocess.run(["./tapc", "world", system, os.path.join(folder, "empty.sch")], stdout=subprocess.PIPE)
+    return done.returncode, done.stdout
+
+
+def main():
+    wrong = 0
+    with tempfile.TemporaryDirectory() as folder:
+        open(os.path.join(folder, "empty.sch"), "w").close()
+        for what, within, beyond in LIMITS:
+            status, written = answer(folder, within)
+            if status != 0 or not written.endswith(b"end\n"):
+                print(f"{what}: refused at the limit, status {status}")
+                wrong += 1
+            if answer(folder, beyond) != (1, REFUSED):
+                print(f"{what}: not refused beyond the limit")
+                wrong += 1
+    sys.exit(wrong)
+
+
+main()

@@ -1,7 +1,0 @@
-use Rattle.std.proofs.Common.{◌≡◌, ◌+◌, drop}
-use Rattle.std.specs.List.{prefix_len}
-use Rattle.tap_parser.specs.Lexing.{belongs}
-use Rattle.tap_parser.proofs.lexer.classes.run.Given as goal
-
-abbrev pub invariant-loop-byte : goal.invariant-loop-byte
-invariant-loop-byte l = (l.count ≡ l.byte-index) × (l.count + prefix_len (belongs l.class) (drop l.byte-index l.bytes) ≡ prefix_len (belongs l.class) l.bytes)

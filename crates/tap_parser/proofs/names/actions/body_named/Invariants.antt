@@ -1,7 +1,0 @@
-use Rattle.std.proofs.Common.{◌≡◌, ◌++◌, drop}
-use Rattle.std.specs.Option.{option_map}
-use Rattle.tap_base.specs.SmallNames.{each, stmt_of}
-use Rattle.tap_parser.proofs.names.actions.body_named.Given as goal
-
-abbrev pub invariant-body : goal.invariant-body
-invariant-body l = option_map (λ rest. l.found ++ rest) (each (stmt_of l.vars) (drop l.stmt-index l.body)) ≡ each (stmt_of l.vars) l.body

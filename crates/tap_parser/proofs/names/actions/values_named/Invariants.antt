@@ -1,7 +1,0 @@
-use Rattle.std.proofs.Common.{◌≡◌, ◌++◌, drop}
-use Rattle.std.specs.Option.{option_map}
-use Rattle.tap_base.specs.SmallNames.{each, atom_of}
-use Rattle.tap_parser.proofs.names.actions.values_named.Given as goal
-
-abbrev pub invariant-values : goal.invariant-values
-invariant-values l = option_map (λ rest. l.found ++ rest) (each (atom_of l.vars) (drop l.value-index l.values)) ≡ each (atom_of l.vars) l.values
