@@ -1,14 +1,16 @@
 """Each limit of the language, at its border on both sides, over the built program.
 
-A text at the border is accepted: with an empty schedule its variables and the end are written. One step
-further it is refused. Exits with the number of texts that were answered otherwise.
+A text at the border is accepted, and with an empty schedule its variables and the end are written. One step
+further it is refused by both commands. Exits with the number of texts that were answered otherwise.
 """
 import os
 import subprocess
 import sys
 import tempfile
 
-REFUSED = b"refused S0 1:1\n"
+ACCEPTED = b"accepted\n"
+OUTSIDE = b"refused S0 1:1\n"
+TOO_LONG = b"refused L0 1:1\n"
 
 
 def names(front, count):
@@ -51,37 +53,39 @@ def size(length):
 
 # 146 fields of 56 bits and one of 16 are 8,192 bits.
 LIMITS = [
-    ("processes", processes(64), processes(65)),
-    ("messages", messages(256), messages(257)),
-    ("fields of a message", fields([8] * 256), fields([8] * 257)),
-    ("bits of a message", fields([56] * 146 + [16]), fields([56] * 146 + [24])),
-    ("bits of a field", fields([56]), fields([64])),
-    ("actions of a process", actions(256), actions(257)),
-    ("variables of a process", variables(4096), variables(4097)),
-    ("statements of an action", statements(64), statements(65)),
-    ("bytes of a name", name(64), name(65)),
-    ("bytes of a text", size(1048576), size(1048577)),
+    ("processes", processes(64), processes(65), OUTSIDE),
+    ("messages", messages(256), messages(257), OUTSIDE),
+    ("fields of a message", fields([8] * 256), fields([8] * 257), OUTSIDE),
+    ("bits of a message", fields([56] * 146 + [16]), fields([56] * 146 + [24]), OUTSIDE),
+    ("bits of a field", fields([56]), fields([64]), OUTSIDE),
+    ("actions of a process", actions(256), actions(257), OUTSIDE),
+    ("variables of a process", variables(4096), variables(4097), OUTSIDE),
+    ("statements of an action", statements(64), statements(65), OUTSIDE),
+    ("bytes of a name", name(64), name(65), OUTSIDE),
+    ("bytes of a text", size(1048576), size(1048577), TOO_LONG),
 ]
 
 
-def answer(folder, text):
+def answers(folder, text):
+    """The status and the output of `check`, and those of `world` with an empty schedule."""
     system = os.path.join(folder, "system.tap")
     with open(system, "w") as file:
         file.write(text)
-    done = subprocess.run(["./tapc", "world", system, os.path.join(folder, "empty.sch")], stdout=subprocess.PIPE)
-    return done.returncode, done.stdout
+    for words in ["check", system], ["world", system, os.path.join(folder, "empty.sch")]:
+        done = subprocess.run(["./tapc"] + words, stdout=subprocess.PIPE)
+        yield done.returncode, done.stdout
 
 
 def main():
     wrong = 0
     with tempfile.TemporaryDirectory() as folder:
         open(os.path.join(folder, "empty.sch"), "w").close()
-        for what, within, beyond in LIMITS:
-            status, written = answer(folder, within)
-            if status != 0 or not written.endswith(b"end\n"):
+        for what, within, beyond, refusal in LIMITS:
+            checked, (status, written) = answers(folder, within)
+            if checked != (0, ACCEPTED) or status != 0 or not written.endswith(b"end\n"):
                 print(f"{what}: refused at the limit, status {status}")
                 wrong += 1
-            if answer(folder, beyond) != (1, REFUSED):
+            if list(answers(folder, beyond)) != [(1, refusal), (1, refusal)]:
                 print(f"{what}: not refused beyond the limit")
                 wrong += 1
     sys.exit(wrong)

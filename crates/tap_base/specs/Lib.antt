@@ -1,4 +1,8 @@
 pub mod Bytes
+pub mod Canonical
+pub mod CanonicalExprs
+pub mod CanonicalLaws
+pub mod Declarations
 pub mod Depth
 pub mod ExprText
 pub mod Grammar
@@ -7,13 +11,18 @@ pub mod Lexeme
 pub mod Lists
 pub mod Nodes
 pub mod Places
+pub mod PlacesAside
+pub mod Printed
 pub mod Small
 pub mod SmallGrammar
 pub mod SmallNames
 pub mod SmallText
 pub mod Spans
+pub mod Statements
+pub mod Systems
 pub mod TokenSpans
 pub mod Tokens
 pub mod Words
+pub mod WorkedCanonical
 pub mod WorkedGrammar
 pub mod formers

@@ -1,10 +1,11 @@
 mod Digits
-mod Pieces
+pub mod Pieces
 mod Places
 mod Reading
-mod Shapes
+pub mod Shapes
 pub mod Spans
 mod Spelled
 mod Standing
-mod Tables
+pub mod Tables
 pub mod One
+pub mod TokenPlaces

@@ -6,6 +6,7 @@ use std::test::Fail;
 use tap_base::{Place, Refusal, RefusalCode, Sign};
 
 mod long;
+mod source;
 
 /// The tokens of a text, a line for each: its kind, its bytes, its value and its place.
 fn outcome(rt: &impl Abort, alloc: Global, text: &[u8]) -> Result<String, Fail> {

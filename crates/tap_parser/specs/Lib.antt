@@ -1,12 +1,4 @@
-pub mod ExprNodes
-pub mod ExprReading
-pub mod ExprSigns
-pub mod Exprs
-pub mod Apart
-pub mod Ends
-pub mod Few
-pub mod Fitting
-pub mod Named
+pub mod Forms
+pub mod Keeping
 pub mod Reading
-pub mod Scopes
-pub mod Trees
+pub mod Texts

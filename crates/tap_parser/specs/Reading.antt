@@ -1,67 +1,62 @@
--- What a reader of a form answers.
-use Rattle.std.specs.Prelude.{◌≡◌, ℕ, ◌+◌, ◌<◌, ◌≤◌, List, [], ◌∷◌, Option, Some, None, Result, Ok, Err, drop, length}
+-- What a reader of a form of the language answers.
+use Rattle.std.specs.Prelude.{◌≡◌, ℕ, ◌+◌, ◌<◌, ◌≤◌, nat_lt, Bool, true, false, List, Option, Some, None, Result, Ok, Err, drop, length}
 use Rattle.tap_base.specs.declared.token.Sign.{Sign}
-use Rattle.tap_base.specs.declared.token.Token.{Token}
-use Rattle.tap_base.specs.Lexeme.{Lexeme, lexeme, lexemes}
-use Rattle.tap_parser.specs.declared.found.Found.{Found}
-use Rattle.tap_parser.specs.declared.found.Stop.{Stop}
-use Rattle.tap_parser.specs.declared.found.Stop.TheVariants as stop
+use Rattle.tap_base.specs.Lexeme.{Lexeme}
+use Rattle.tap_lexer.specs.declared.found.Found.{Found}
+use Rattle.tap_expr.specs.declared.found.Stuck.{Stuck}
+use Rattle.tap_expr.specs.declared.found.Stuck.TheVariants as stuck
+use Rattle.tap_parser.specs.declared.kept.Kept.{Kept}
+use Rattle.tap_parser.specs.declared.kept.Kept.TheVariants.{Whole, Large}
+use Rattle.tap_expr.specs.ExprReading.{Alike}
+use Rattle.tap_lexer.specs.Reading.{Shows}
+use Rattle.tap_lexer.specs.Reading.{Lacks, Never}
 
--- x is the token at a place
-pub record Stands (xs : List Lexeme) (at : ℕ) (x : Lexeme) : Type 0 where
-  pub cut : drop at xs ≡ x ∷ drop (at + 1) xs
-  pub below : at < length xs
+-- The tokens before us spell a, and no other reading of ts is followed by what can't carry it on.
+pub record IsReadOnce {A : Type 0} (Item : A → List Lexeme → List Lexeme → Type 0) (Stops : List Lexeme → Type 0) (ts us : List Lexeme) (a : A) : Type 0 where
+  pub spelled : Item a ts us
+  pub only : (b : A) (ws : List Lexeme) → Item b ts ws → Stops ws → (b ≡ a) × (ws ≡ us)
 
--- the token at a place, and where it has the sign
-abbrev pub Seen : List ℕ → List Token → ℕ → Option Token → Type 0
-Seen text tokens at None = drop at (lexemes text tokens) ≡ []
-Seen text tokens at (Some t) = Stands (lexemes text tokens) at (lexeme text t)
+-- the form that the tokens of a list spell from one place to another, or that none stands there
+abbrev pub Verdict : {A : Type 0} → (A → List Lexeme → List Lexeme → Type 0) → (List Lexeme → Type 0) → List Lexeme → List Lexeme → Option A → Type 0
+Verdict Item Stops ts us (Some a) = IsReadOnce Item Stops ts us a
+Verdict Item Stops ts us None = Never Item Stops ts
 
--- another sign stands first, or nothing
-abbrev pub Lacks : Sign → List Lexeme → Type 0
-Lacks s [] = Unit {0}
-Lacks s (x ∷ us) = x.sign ≡ s → ⊥
+-- whether an expression that begins at a place is asked to be small
+abbrev pub asks : Option ℕ → List Lexeme → ℕ → Bool
+asks None ys k = false
+asks (Some n) ys k = nat_lt n (length (drop k ys))
 
--- a token with the sign stands at a place
-pub record IsTaken (s : Sign) (xs : List Lexeme) (at : ℕ) (x : Lexeme) : Type 0 where
-  pub stands : Stands xs at x
-  pub is : x.sign ≡ s
+-- What is kept is the form; or there is none, exactly where the large expression is asked to be small.
+abbrev pub Agrees : {A : Type 0} → Option ℕ → List Lexeme → Kept A → Option A → Type 0
+Agrees n ys (Whole a) o = o ≡ Some a
+Agrees n ys (Large k) (Some a) = asks n ys k ≡ false
+Agrees n ys (Large k) None = asks n ys k ≡ true
 
--- some token with the sign stands at a place
-pub record Begins (s : Sign) (xs : List Lexeme) (at : ℕ) : Type 0 where
-  pub token : Lexeme
-  pub taken : IsTaken s xs at token
+-- the large expression begins within the form, at a token
+abbrev pub Lies : {A : Type 0} → List Lexeme → ℕ → ℕ → Kept A → Type 0
+Lies xs at next (Whole a) = Unit {0}
+Lies xs at next (Large k) = (at ≤ k) × (k ≤ next) × (k < length xs)
 
--- the token at a place, if it has the sign
-abbrev pub Taken : Sign → List ℕ → List Token → ℕ → Option Token → Type 0
-Taken s text tokens at None = Lacks s (drop at (lexemes text tokens))
-Taken s text tokens at (Some t) = IsTaken s (lexemes text tokens) at (lexeme text t)
+-- What a list spells there, whatever is asked of its expressions.
+abbrev pub Told : {A : Type 0} → (Option ℕ → A → List Lexeme → List Lexeme → Type 0) → (List Lexeme → Type 0) → List Lexeme → ℕ → ℕ → Kept A → Type 0
+Told {A} Item Stops ys at next kept = (n : Option ℕ) → (o : Option A) × Verdict (Item n) Stops (drop at ys) (drop next ys) o × Agrees n ys kept o
 
--- a form, and a token with the sign that closes it
-pub data Closed {A : Type 0} (Item : A → List Lexeme → List Lexeme → Type 0) (s : Sign) : A → List Lexeme → List Lexeme → Type 0 where
-  closed : {a : A} {x : Lexeme} {ts us : List Lexeme} → Item a ts (x ∷ us) → x.sign ≡ s → Closed Item s a ts us
+-- What is read, and that nothing is, holds for every list that agrees up to the last token looked at.
+abbrev pub Answers : {A : Type 0} → (Option ℕ → A → List Lexeme → List Lexeme → Type 0) → (List Lexeme → Type 0) → List Lexeme → ℕ → Result (Found (Kept A)) Stuck → Type 0
+Answers Item Stops xs at (Ok found) = (at ≤ found.next) × Lies xs at found.next found.value × ((ys : List Lexeme) → Alike (found.next + 1) xs ys → Told Item Stops ys at found.next found.value)
+Answers Item Stops xs at (Err (stuck.At k)) = (at ≤ k) × ((ys : List Lexeme) → Alike (k + 1) xs ys → (n : Option ℕ) → Never (Item n) Stops (drop at ys))
+Answers Item Stops xs at (Err stuck.NoMemory) = Unit {0}
 
--- anything may follow
-abbrev pub Free : List Lexeme → Type 0
-Free us = Unit {0}
+-- a form without expressions is kept whole
+abbrev pub whole : {A : Type 0} → Result (Found A) Stuck → Result (Found (Kept A)) Stuck
+whole (Ok found) = Ok (record { value = Whole found.value; next = found.next })
+whole (Err e) = Err e
 
--- No such form stands there.
-abbrev pub Never : {A : Type 0} → (A → List Lexeme → List Lexeme → Type 0) → (List Lexeme → Type 0) → List Lexeme → Type 0
-Never {A} Item Stops ts = (a : A) (us : List Lexeme) → Item a ts us → Stops us → ⊥
+abbrev pub Tells : {A : Type 0} → (A → List Lexeme → List Lexeme → Type 0) → (List Lexeme → Type 0) → List Lexeme → ℕ → Result (Found A) Stuck → Type 0
+Tells Item Stops xs at r = Answers (λ n. Item) Stops xs at (whole r)
 
--- No other such form stands there.
-abbrev pub Only : {A : Type 0} → (A → List Lexeme → List Lexeme → Type 0) → (List Lexeme → Type 0) → List Lexeme → A → List Lexeme → Type 0
-Only {A} Item Stops ts a us = (b : A) (ws : List Lexeme) → Item b ts ws → Stops ws → (b ≡ a) × (ws ≡ us)
-
--- A form was read from one place to another, and it is the only one behind which nothing can carry it on.
-pub record IsRead {A : Type 0} (Item : A → List Lexeme → List Lexeme → Type 0) (Stops : List Lexeme → Type 0) (xs : List Lexeme) (at : ℕ) (found : Found A) : Type 0 where
-  pub within : found.next ≤ length xs
-  pub further : at ≤ found.next
-  pub spelled : Item found.value (drop at xs) (drop found.next xs)
-  pub only : Only Item Stops (drop at xs) found.value (drop found.next xs)
-
--- The form that stands at a place, or that none stands there.
-abbrev pub Answers : {A : Type 0} → (A → List Lexeme → List Lexeme → Type 0) → (List Lexeme → Type 0) → List Lexeme → ℕ → Result (Found A) Stop → Type 0
-Answers Item Stops xs at (Ok found) = IsRead Item Stops xs at found
-Answers Item Stops xs at (Err stop.Unspelled) = Never Item Stops (drop at xs)
-Answers Item Stops xs at (Err stop.NoMemory) = Unit {0}
+-- a token with the sign stands at the place, and the number of the token after it
+abbrev pub Expects : Sign → List Lexeme → ℕ → Result ℕ Stuck → Type 0
+Expects s xs at (Ok next) = Shows s xs at × (next ≡ at + 1)
+Expects s xs at (Err (stuck.At k)) = (k ≡ at) × Lacks s (drop at xs)
+Expects s xs at (Err stuck.NoMemory) = Unit {0}

@@ -1,19 +1,24 @@
-//! From a text to its tree, and to the system that it names.
+//! From tokens to the tree that they spell.
 #![tactic(auto)]
 
-mod expr;
-mod fault;
-mod found;
-mod limits;
-mod names;
-mod parse;
-mod small;
-mod source;
+mod actions;
+mod bounds;
+mod declarations;
+mod exprs;
+mod forms;
+mod kept;
+mod laws;
+mod leaves;
+mod lists;
+mod nodes;
+mod processes;
+mod simple;
+mod stmts;
 #[cfg(test)]
 mod tests;
+mod vars;
+mod whole;
 
-pub use expr::{expressions_are_worked, one_end, one_front, one_tree, parse_expr};
-pub use fault::ParseFault;
-pub use limits::is_small;
-pub use names::{counts_are_few, system_named};
-pub use parse::{SmallFault, names_are_words, one_system, read_small};
+pub use laws::{one_text, one_text_end, one_text_front};
+pub use tap_expr::ParseFault;
+pub use whole::parse;

@@ -14,3 +14,5 @@ pub mod ScheduleLines
 pub mod ScheduleBoth
 pub mod Complete
 pub mod Named
+pub mod OneOffence
+pub mod TreesRead

@@ -6,7 +6,8 @@ use Rattle.tap_base.specs.declared.system.System.{System}
 use Rattle.abstract_run.specs.declared.label.Event.{Event}
 use Rattle.abstract_run.specs.declared.state.State.{State}
 use Rattle.tapc_core.specs.Closing.{Closes, ClosesOr, failed, put}
-use Rattle.tapc_core.specs.Output.{IsBadTrace, IsFrontOfTrace, IsOutput, IsPlayed, IsTrace, IsUnfinished, IsWritten, Writes, bad_line, no_memory_line}
+use Rattle.tapc_core.specs.Offences.{refused_line}
+use Rattle.tapc_core.specs.Output.{GivesUp, IsBadTrace, IsFrontOfTrace, IsPlayed, IsTrace, IsUnfinished, IsWritten, OfWorld, Writes, bad_line, no_memory_line, read_fault_line}
 use Rattle.tapc_core.specs.Run.{AreOf, Files, Played, opening}
 use Rattle.tapc_core.specs.ScheduleText.{BeginsBadly, BeginsSchedule, GoesOnAfter, SpellsSchedule, events_text, most_events}
 use Rattle.tapc_core.specs.Serving.{Broken, Passed, Progress}
@@ -15,42 +16,54 @@ use Rattle.abstract_run.specs.Answers.{Answers}
 use Rattle.abstract_run.specs.Meaning.{Meaning, meaning_of}
 use Rattle.abstract_run.specs.Run.{state_after}
 use Rattle.abstract_run.specs.declared.label.Label.{Label}
+use Rattle.tapc_core.specs.declared.files.FileFault.{FileFault}
+use Rattle.tapc_core.specs.declared.files.FileFault.TheVariants as file
+use Rattle.tapc_core.specs.declared.offence.Offence.{Offence}
 use Rattle.tapc_core.specs.declared.status.Status.{Status}
 use Rattle.tapc_core.specs.declared.status.Status.TheVariants.{Done, Refused, Usage, BadSchedule, ReadFault, WriteFault, LinkFault, NoMemory, NotARun, WorldFull}
 use Rattle.tapc_core.proofs.Steps.{answered, appends_more, appends_none}
 
 -- ---- closing
 
-output_written : (files : Files) (s : Status) (bytes : List ℕ) → IsOutput files s bytes → IsWritten files s bytes
-output_written files Done bytes h = h
-output_written files Refused bytes h = h
-output_written files Usage bytes h = h
-output_written files BadSchedule bytes h = h
-output_written files ReadFault bytes h = h
-output_written files WriteFault bytes h = absurd h
-output_written files LinkFault bytes h = h
-output_written files NoMemory bytes h = h
-output_written files NotARun bytes h = h
-output_written files WorldFull bytes h = h
+module _ (Kind : Status → List ℕ → Type 0) where
+  output_written : (s : Status) (bytes : List ℕ) → Kind s bytes → IsWritten Kind s bytes
+  output_written Done bytes h = h
+  output_written Refused bytes h = h
+  output_written Usage bytes h = h
+  output_written BadSchedule bytes h = h
+  output_written ReadFault bytes h = h
+  output_written WriteFault bytes h = record { status = WriteFault; whole = bytes; output = h; rest = []; front = append-nil bytes }
+  output_written LinkFault bytes h = h
+  output_written NoMemory bytes h = h
+  output_written NotARun bytes h = h
+  output_written WorldFull bytes h = h
 
--- the last bytes are put behind others
-pub closes_behind : (files : Files) {status r : Status} {before middle now : Option (List ℕ)} {bytes : List ℕ} (done : List ℕ)
-    → Appends before middle done → IsOutput files status (done ++ bytes) → Closes status bytes middle now r → Writes files r before now
-closes_behind files {status = status} {before = before} {middle = middle} {now = now} {bytes = bytes} done told output (put more) = record {
-  bytes = done ++ bytes;
-  told = appends_more before middle now done bytes told more;
-  kind = output_written files status (done ++ bytes) output;
-}
-closes_behind files {status = status} {before = before} {middle = middle} {now = now} {bytes = bytes} done told output (failed front rest cut more) = record {
-  bytes = done ++ front;
-  told = appends_more before middle now done front told more;
-  kind = record { status = status; whole = done ++ bytes; output = output; rest = rest; front = append_assoc done front rest ∙ ap (λ x. done ++ x) cut };
-}
+  -- the last bytes are put behind others
+  pub closes_behind : {status r : Status} {before middle now : Option (List ℕ)} {bytes : List ℕ} (done : List ℕ)
+      → Appends before middle done → Kind status (done ++ bytes) → Closes status bytes middle now r → Writes Kind r before now
+  closes_behind {status = status} {before = before} {middle = middle} {now = now} {bytes = bytes} done told output (put more) = record {
+    bytes = done ++ bytes;
+    told = appends_more before middle now done bytes told more;
+    kind = output_written status (done ++ bytes) output;
+  }
+  closes_behind {status = status} {before = before} {middle = middle} {now = now} {bytes = bytes} done told output (failed front rest cut more) = record {
+    bytes = done ++ front;
+    told = appends_more before middle now done front told more;
+    kind = record { status = status; whole = done ++ bytes; output = output; rest = rest; front = append_assoc done front rest ∙ ap (λ x. done ++ x) cut };
+  }
 
--- the last bytes are all
-pub closes_alone : (files : Files) {status r : Status} {before now : Option (List ℕ)} {bytes : List ℕ}
-    → IsOutput files status bytes → Closes status bytes before now r → Writes files r before now
-closes_alone files {before = before} output closes = closes_behind files [] (appends_none before) output closes
+  -- the last bytes are all
+  pub closes_alone : {status r : Status} {before now : Option (List ℕ)} {bytes : List ℕ}
+      → Kind status bytes → Closes status bytes before now r → Writes Kind r before now
+  closes_alone {before = before} output closes = closes_behind [] (appends_none before) output closes
+
+  -- a command that has nothing to work on writes one line
+  pub gives_up : (fault : FileFault) (r : Status) (before now : Option (List ℕ)) → ((o : Offence) → fault ≡ file.Refused o → Kind Refused (refused_line o))
+      → Kind ReadFault read_fault_line → Kind NoMemory no_memory_line → GivesUp fault before now r → Writes Kind r before now
+  gives_up (file.Refused o) r before now refused unread none (inl h) = closes_alone (refused o refl) h
+  gives_up (file.Refused o) r before now refused unread none (inr h) = closes_alone none h
+  gives_up file.ReadFault r before now refused unread none h = closes_alone unread h
+  gives_up file.NoMemory r before now refused unread none h = closes_alone none h
 
 -- ---- schedules
 
@@ -80,7 +93,7 @@ begins names schedule rest events (inr h) = ([], h.1 ∙ sym (append-nil (events
 abbrev played : {system : System} {schedule rest : List ℕ} {number : ℕ} {s : State} {before now : Option (List ℕ)} {page : List ℕ} {files : Files}
     → IsSmall system → AreOf system schedule files → Progress system schedule rest number s before now page → Played files
 played {system = system} {s = s} small of p =
-    record { system = system; small = small; spelled = of.spelled; events = p.events; labels = p.labels; last = s; run = p.run }
+    record { system = system; small = small; accepted = of.accepted; events = p.events; labels = p.labels; last = s; run = p.run }
 
 -- nothing is falling at the end of a run
 settled_end : (m : Meaning) (s t : State) (es : List Event) (labels : List Label) → s.falling ≡ None → Answers m s es labels t → t.falling ≡ None
@@ -145,7 +158,7 @@ unfinished_output {page = page} small of p = record {
 }
 
 pub broken_output : {system : System} {schedule : List ℕ} {before now : Option (List ℕ)} {files : Files}
-    → IsSmall system → AreOf system schedule files → Broken system schedule before now → Writes files WriteFault before now
+    → IsSmall system → AreOf system schedule files → Broken system schedule before now → Writes (OfWorld files) WriteFault before now
 broken_output {system = system} {before = before} {now = now} small of b =
     let p = b.progress in
     record {
@@ -173,32 +186,32 @@ on_page {system = system} {schedule = schedule} {rest = rest} {number = number} 
 -- the run was played to the end of its schedule
 pub trace_closes : (files : Files) {own system after : System} {schedule : List ℕ} {number : ℕ} {s : State} {before middle now : Option (List ℕ)} {page : List ℕ} {r : Status}
     → own ≡ system → after ≡ own → IsSmall system → AreOf system schedule files → Progress own schedule [] number s before middle page
-    → ClosesOr Done (page ++ (var_lines after.processes s.stores ++ end_line)) (page ++ no_memory_line) middle now r → Writes files r before now
+    → ClosesOr Done (page ++ (var_lines after.processes s.stores ++ end_line)) (page ++ no_memory_line) middle now r → Writes (OfWorld files) r before now
 trace_closes files {own = own} {schedule = schedule} {s = s} {middle = middle} {now = now} {page = page} {r = r} same still small of p (inl h) =
-    closes_behind files p.put p.told (trace_output (subst IsSmall (sym same) small) (subst (λ x. AreOf x schedule files) (sym same) of) p)
+    closes_behind (OfWorld files) p.put p.told (trace_output (subst IsSmall (sym same) small) (subst (λ x. AreOf x schedule files) (sym same) of) p)
     (subst (λ x. Closes Done (page ++ (var_lines x.processes s.stores ++ end_line)) middle now r) still h)
 trace_closes files {schedule = schedule} same still small of p (inr h) =
-    closes_behind files p.put p.told (unfinished_output (subst IsSmall (sym same) small) (subst (λ x. AreOf x schedule files) (sym same) of) p) h
+    closes_behind (OfWorld files) p.put p.told (unfinished_output (subst IsSmall (sym same) small) (subst (λ x. AreOf x schedule files) (sym same) of) p) h
 
 -- a line is that of no event
 pub bad_closes : (files : Files) {own system : System} {schedule rest : List ℕ} {number : ℕ} {s : State} {before middle now : Option (List ℕ)} {page : List ℕ} {r : Status}
     → own ≡ system → IsSmall system → AreOf system schedule files → (rest ≡ [] → ⊥) → (most_events < number) ⊎ BeginsBadly (process_names own) rest
-    → Progress own schedule rest number s before middle page → ClosesOr BadSchedule (page ++ bad_line number) (page ++ no_memory_line) middle now r → Writes files r before now
+    → Progress own schedule rest number s before middle page → ClosesOr BadSchedule (page ++ bad_line number) (page ++ no_memory_line) middle now r → Writes (OfWorld files) r before now
 bad_closes files {schedule = schedule} same small of more bad p (inl h) =
-    closes_behind files p.put p.told (bad_output (subst IsSmall (sym same) small) (subst (λ x. AreOf x schedule files) (sym same) of) more bad p) h
+    closes_behind (OfWorld files) p.put p.told (bad_output (subst IsSmall (sym same) small) (subst (λ x. AreOf x schedule files) (sym same) of) more bad p) h
 bad_closes files {schedule = schedule} same small of more bad p (inr h) =
-    closes_behind files p.put p.told (unfinished_output (subst IsSmall (sym same) small) (subst (λ x. AreOf x schedule files) (sym same) of) p) h
+    closes_behind (OfWorld files) p.put p.told (unfinished_output (subst IsSmall (sym same) small) (subst (λ x. AreOf x schedule files) (sym same) of) p) h
 
 -- memory was refused
 pub unfinished_closes : (files : Files) {own system : System} {schedule rest : List ℕ} {number : ℕ} {s : State} {before middle now : Option (List ℕ)} {page : List ℕ} {r : Status}
     → own ≡ system → IsSmall system → AreOf system schedule files → Progress own schedule rest number s before middle page
-    → Closes NoMemory (page ++ no_memory_line) middle now r → Writes files r before now
+    → Closes NoMemory (page ++ no_memory_line) middle now r → Writes (OfWorld files) r before now
 unfinished_closes files {schedule = schedule} same small of p h =
-    closes_behind files p.put p.told (unfinished_output (subst IsSmall (sym same) small) (subst (λ x. AreOf x schedule files) (sym same) of) p) h
+    closes_behind (OfWorld files) p.put p.told (unfinished_output (subst IsSmall (sym same) small) (subst (λ x. AreOf x schedule files) (sym same) of) p) h
 
 -- a put failed
 pub broken_closes : (files : Files) {own system : System} {schedule : List ℕ} {before now : Option (List ℕ)}
-    → own ≡ system → IsSmall system → AreOf system schedule files → Broken own schedule before now → Writes files WriteFault before now
+    → own ≡ system → IsSmall system → AreOf system schedule files → Broken own schedule before now → Writes (OfWorld files) WriteFault before now
 broken_closes files {schedule = schedule} same small of b = broken_output (subst IsSmall (sym same) small) (subst (λ x. AreOf x schedule files) (sym same) of) b
 
 -- what closes with an answer of playing is such an answer

@@ -1,9 +1,11 @@
 pub mod Calls
 pub mod Closing
 pub mod Entries
+pub mod FileFaults
 pub mod MemorySink
 pub mod MemoryStore
 pub mod Names
+pub mod Offences
 pub mod OneTrace
 pub mod Output
 pub mod Outside
@@ -13,5 +15,4 @@ pub mod ScheduleText
 pub mod Serving
 pub mod Status
 pub mod TraceText
-pub mod Unplayed
 pub mod Words

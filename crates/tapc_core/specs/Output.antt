@@ -1,23 +1,28 @@
 -- What the program writes, by the status that it ends with.
-use Rattle.std.specs.Prelude.{◌≡◌, ◌≢◌, ℕ, ◌+◌, ◌<◌, ◌≤◌, ◌⊎◌, ⊤, List, [], ◌∷◌, ◌++◌, length, codes, IfSome, Option, Some, None}
+use Rattle.std.specs.Prelude.{◌≡◌, ℕ, ◌+◌, ◌≤◌, ◌⊎◌, ⊤, List, [], ◌∷◌, ◌++◌, length, codes, IfSome, Option, Some, None}
 use Rattle.std.specs.Fmt.{decimal}
 use Rattle.std.specs.Io.KnownBytes.{Appends}
-use Rattle.tap_base.specs.SmallText.{IsOutside, SmallText}
+use Rattle.tap_base.specs.Canonical.{canonical}
+use Rattle.tap_base.specs.declared.ast.Ast.{Ast}
 use Rattle.tap_base.specs.declared.system.System.{System}
 use Rattle.abstract_run.specs.declared.label.Event.{Event}
+use Rattle.tapc_core.specs.Closing.{Closes, ClosesOr}
+use Rattle.tapc_core.specs.Offences.{Accepted, IsMisspelling, IsReadAs, Offends, refused_line}
 use Rattle.tapc_core.specs.Outside.{Rose}
-use Rattle.tapc_core.specs.Reading.{longest_text}
 use Rattle.tapc_core.specs.Run.{Files, IsOfSchedule, Played, lines_of, opening}
 use Rattle.tapc_core.specs.ScheduleText.{BeginsSchedule, GoesOnAfter, SpellsSchedule}
 use Rattle.tapc_core.specs.TraceText.{process_names, trace_text}
-use Rattle.tapc_core.specs.Words.{Asked, world, command_of, usage_line}
+use Rattle.tapc_core.specs.Words.{Asked, check, print, world, usage_line}
+use Rattle.tapc_core.specs.declared.files.FileFault.{FileFault}
+use Rattle.tapc_core.specs.declared.files.FileFault.TheVariants as fault
+use Rattle.tapc_core.specs.declared.offence.Offence.{Offence}
 use Rattle.tapc_core.specs.declared.status.Status.{Status}
 use Rattle.tapc_core.specs.declared.status.Status.TheVariants.{Done, Refused, Usage, BadSchedule, ReadFault, WriteFault, NoMemory}
 
 -- ---- lines
 
-abbrev pub refused_line : List ℕ
-refused_line = codes "refused S0 1:1\n"
+abbrev pub accepted_line : List ℕ
+accepted_line = codes "accepted\n"
 
 abbrev pub read_fault_line : List ℕ
 read_fault_line = codes "read fault\n"
@@ -51,36 +56,82 @@ pub record IsFrontOfTrace (files : Files) (bytes : List ℕ) : Type 0 where
   pub schedule : IsOfSchedule BeginsSchedule run
   pub is : lines_of run ≡ Some bytes
 
--- A text is refused: it is too long, or none of the small language.
-abbrev pub IsRefused : List ℕ → Type 0
-IsRefused text = (longest_text < length text) ⊎ IsOutside text
-
--- The line of a refusal, where the text of the system is refused.
-pub record IsRefusal (files : Files) (bytes : List ℕ) : Type 0 where
-  pub refused : IfSome files.text IsRefused
-  pub is : bytes ≡ refused_line
-
 -- Nothing, or the lines of a run on some first lines of the schedule, and that memory was refused.
 pub record IsUnfinished (files : Files) (bytes : List ℕ) : Type 0 where
   pub front : List ℕ
   pub shown : (front ≡ []) ⊎ IsFrontOfTrace files front
   pub is : bytes ≡ front ++ no_memory_line
 
--- What is written with each status where every put succeeds.
-abbrev pub IsOutput : Files → Status → List ℕ → Type 0
-IsOutput files Done bytes = IsTrace files bytes
-IsOutput files Refused bytes = IsRefusal files bytes
-IsOutput files Usage bytes = bytes ≡ usage_line
-IsOutput files BadSchedule bytes = IsBadTrace files bytes
-IsOutput files ReadFault bytes = bytes ≡ read_fault_line
-IsOutput files NoMemory bytes = IsUnfinished files bytes
-IsOutput files _ bytes = ⊥
+-- The line of the first offence of a text, among those that a command looks for, where the text is told.
+pub record IsRefusal (First : List ℕ → Offence → Type 0) (text : Option (List ℕ)) (bytes : List ℕ) : Type 0 where
+  pub offence : Offence
+  pub first : IfSome text (λ t. First t offence)
+  pub is : bytes ≡ refused_line offence
+
+-- The line that a text is accepted, where the text is told.
+pub record IsAcceptance (text : Option (List ℕ)) (bytes : List ℕ) : Type 0 where
+  pub system : System
+  pub accepted : IfSome text (λ t. Accepted t system)
+  pub is : bytes ≡ accepted_line
+
+-- The canonical text of the tree that a text is read as, where the text is told.
+pub record IsPrinted (text : Option (List ℕ)) (bytes : List ℕ) : Type 0 where
+  pub tree : Ast
+  pub read : IfSome text (λ t. IsReadAs t tree)
+  pub is : bytes ≡ canonical tree
+
+-- ---- what each command writes
+
+-- What is written with each status where every put succeeds: by `world`,
+abbrev pub OfWorld : Files → Status → List ℕ → Type 0
+OfWorld files Done bytes = IsTrace files bytes
+OfWorld files Refused bytes = IsRefusal Offends files.text bytes
+OfWorld files BadSchedule bytes = IsBadTrace files bytes
+OfWorld files ReadFault bytes = bytes ≡ read_fault_line
+OfWorld files NoMemory bytes = IsUnfinished files bytes
+OfWorld files _ bytes = ⊥
+
+-- by `check`,
+abbrev pub OfCheck : Option (List ℕ) → Status → List ℕ → Type 0
+OfCheck text Done bytes = IsAcceptance text bytes
+OfCheck text Refused bytes = IsRefusal Offends text bytes
+OfCheck text ReadFault bytes = bytes ≡ read_fault_line
+OfCheck text NoMemory bytes = bytes ≡ no_memory_line
+OfCheck text _ bytes = ⊥
+
+-- by `print`,
+abbrev pub OfPrint : Option (List ℕ) → Status → List ℕ → Type 0
+OfPrint text Done bytes = IsPrinted text bytes
+OfPrint text Refused bytes = IsRefusal IsMisspelling text bytes
+OfPrint text ReadFault bytes = bytes ≡ read_fault_line
+OfPrint text NoMemory bytes = bytes ≡ no_memory_line
+OfPrint text _ bytes = ⊥
+
+-- and of words that are no command.
+abbrev pub OfNone : Status → List ℕ → Type 0
+OfNone Usage bytes = bytes ≡ usage_line
+OfNone _ bytes = ⊥
+
+-- what names hold, where it is told
+abbrev pub Contents : Type 0
+Contents = List ℕ → Option (List ℕ)
+
+-- the two files of these names
+abbrev pub files_named : List ℕ → List ℕ → Contents → Files
+files_named system schedule contents = record { text = contents system; schedule = contents schedule }
+
+-- what is written for words with each status where every put succeeds
+abbrev pub Output : Option Asked → Contents → Status → List ℕ → Type 0
+Output None contents = OfNone
+Output (Some (check system)) contents = OfCheck (contents system)
+Output (Some (print system)) contents = OfPrint (contents system)
+Output (Some (world system schedule)) contents = OfWorld (files_named system schedule contents)
 
 -- A front of what is written with some status.
-pub record IsPartOfOutput (files : Files) (bytes : List ℕ) : Type 0 where
+pub record IsPartOf (Kind : Status → List ℕ → Type 0) (bytes : List ℕ) : Type 0 where
   pub status : Status
   pub whole : List ℕ
-  pub output : IsOutput files status whole
+  pub output : Kind status whole
   pub rest : List ℕ
   pub front : bytes ++ rest ≡ whole
 
@@ -91,12 +142,18 @@ pub record Puts (Kind : List ℕ → Type 0) (before after : Option (List ℕ)) 
   pub kind : Kind bytes
 
 -- What is written with each status: its output, or where a put fails a front of some output.
-abbrev pub IsWritten : Files → Status → List ℕ → Type 0
-IsWritten files WriteFault bytes = IsPartOfOutput files bytes
-IsWritten files status bytes = IsOutput files status bytes
+abbrev pub IsWritten : (Status → List ℕ → Type 0) → Status → List ℕ → Type 0
+IsWritten Kind WriteFault bytes = IsPartOf Kind bytes
+IsWritten Kind status bytes = Kind status bytes
 
-abbrev pub Writes : Files → Status → Option (List ℕ) → Option (List ℕ) → Type 0
-Writes files status before after = Puts (IsWritten files status) before after
+abbrev pub Writes : (Status → List ℕ → Type 0) → Status → Option (List ℕ) → Option (List ℕ) → Type 0
+Writes Kind status before after = Puts (IsWritten Kind status) before after
+
+-- how a command ends that has nothing to work on
+abbrev pub GivesUp : FileFault → Option (List ℕ) → Option (List ℕ) → Status → Type 0
+GivesUp (fault.Refused offence) before now r = ClosesOr Refused (refused_line offence) no_memory_line before now r
+GivesUp fault.ReadFault before now r = Closes ReadFault read_fault_line before now r
+GivesUp fault.NoMemory before now r = Closes NoMemory no_memory_line before now r
 
 -- ---- causes
 
@@ -112,35 +169,7 @@ abbrev pub HasSinkCause : Status → ℕ → ℕ → Type 0
 HasSinkCause WriteFault before now = (before ≤ now) × Rose before now
 HasSinkCause _ before now = now ≡ before
 
--- ---- commands
-
--- the two files of these names, where the contents are told
-abbrev pub files_named : List ℕ → List ℕ → (List ℕ → Option (List ℕ)) → Files
-files_named system schedule contents = record { text = contents system; schedule = contents schedule }
-
--- the files that a command names
-abbrev pub asked_files : Option Asked → (List ℕ → Option (List ℕ)) → Files
-asked_files None contents = record { text = None; schedule = None }
-asked_files (Some (world system schedule)) contents = files_named system schedule contents
-
-abbrev pub files_of : List (List ℕ) → (List ℕ → Option (List ℕ)) → Files
-files_of words contents = asked_files (command_of words) contents
-
--- Words that are no command are answered by Usage, where the line can be put, and no other words are.
-abbrev pub IsUsage : Option Asked → Status → Type 0
-IsUsage None status = (status ≡ Usage) ⊎ (status ≡ WriteFault)
-IsUsage (Some asked) status = status ≡ Usage → ⊥
-
--- the answers that the program gives
-abbrev pub IsAnswer : Status → Type 0
-IsAnswer Done = ⊤
-IsAnswer Refused = ⊤
-IsAnswer Usage = ⊤
-IsAnswer BadSchedule = ⊤
-IsAnswer ReadFault = ⊤
-IsAnswer WriteFault = ⊤
-IsAnswer NoMemory = ⊤
-IsAnswer _ = ⊥
+-- ---- answers
 
 -- the answers that playing a schedule gives
 abbrev pub IsPlayed : Status → Type 0
@@ -150,25 +179,84 @@ IsPlayed WriteFault = ⊤
 IsPlayed NoMemory = ⊤
 IsPlayed _ = ⊥
 
--- the answers that running a world gives
+-- the answers of `world`
 abbrev pub IsOfWorld : Status → Type 0
-IsOfWorld Usage = ⊥
-IsOfWorld status = IsAnswer status
+IsOfWorld Done = ⊤
+IsOfWorld Refused = ⊤
+IsOfWorld BadSchedule = ⊤
+IsOfWorld ReadFault = ⊤
+IsOfWorld WriteFault = ⊤
+IsOfWorld NoMemory = ⊤
+IsOfWorld _ = ⊥
+
+-- the answers of `check` and `print`
+abbrev pub IsOfText : Status → Type 0
+IsOfText Done = ⊤
+IsOfText Refused = ⊤
+IsOfText ReadFault = ⊤
+IsOfText WriteFault = ⊤
+IsOfText NoMemory = ⊤
+IsOfText _ = ⊥
+
+-- The answers that words get. Words that are no command are answered by Usage, where the line can be put, and no other
+-- words are.
+abbrev pub IsAnswer : Option Asked → Status → Type 0
+IsAnswer None status = (status ≡ Usage) ⊎ (status ≡ WriteFault)
+IsAnswer (Some (check system)) status = IsOfText status
+IsAnswer (Some (print system)) status = IsOfText status
+IsAnswer (Some (world system schedule)) status = IsOfWorld status
 
 -- ---- what is answered without fail
 
--- Told files whose text names a system, and whose schedule is one of events for it.
-pub record AreValid (files : Files) : Type 0 where
+-- A told text that is accepted.
+pub record HasSystem (told : Option (List ℕ)) : Type 0 where
   pub text : List ℕ
-  pub text_is : files.text ≡ Some text
+  pub text_is : told ≡ Some text
+  pub system : System
+  pub accepted : Accepted text system
+
+-- A told text that is read as a tree.
+pub record HasTree (told : Option (List ℕ)) : Type 0 where
+  pub text : List ℕ
+  pub text_is : told ≡ Some text
+  pub tree : Ast
+  pub read : IsReadAs text tree
+
+-- A told text that has an offence, among those that a command looks for.
+pub record HasOffence (First : List ℕ → Offence → Type 0) (told : Option (List ℕ)) : Type 0 where
+  pub text : List ℕ
+  pub text_is : told ≡ Some text
+  pub offence : Offence
+  pub first : First text offence
+
+-- Told files whose text is accepted as a system, and whose schedule is one of events for it.
+pub record AreValid (files : Files) : Type 0 where
+  pub text : HasSystem files.text
   pub schedule : List ℕ
   pub schedule_is : files.schedule ≡ Some schedule
-  pub system : System
-  pub named : SmallText text system
   pub events : List Event
-  pub spelled : SpellsSchedule (process_names system) schedule events
+  pub spelled : SpellsSchedule (process_names text.system) schedule events
 
--- On valid files a command ends with its trace or for want of memory, where no count of faults rose.
-abbrev pub IsComplete : Option Asked → Files → ℕ → ℕ → ℕ → ℕ → Status → Type 0
-IsComplete asked files store_before store_now sink_before sink_now status =
-    asked ≢ None → AreValid files → (Rose store_before store_now → ⊥) → (Rose sink_before sink_now → ⊥) → (status ≡ Done) ⊎ (status ≡ NoMemory)
+-- the text of the system that words name
+abbrev pub text_of : Option Asked → Contents → Option (List ℕ)
+text_of None contents = None
+text_of (Some (check system)) contents = contents system
+text_of (Some (print system)) contents = contents system
+text_of (Some (world system schedule)) contents = contents system
+
+-- the offences that a command looks for: `print` asks only for a tree
+abbrev pub offence_of : Option Asked → List ℕ → Offence → Type 0
+offence_of (Some (print system)) = IsMisspelling
+offence_of _ = Offends
+
+-- words of a command that can do all its work
+abbrev pub IsValid : Option Asked → Contents → Type 0
+IsValid None contents = ⊥
+IsValid (Some (check system)) contents = HasSystem (contents system)
+IsValid (Some (print system)) contents = HasTree (contents system)
+IsValid (Some (world system schedule)) contents = AreValid (files_named system schedule contents)
+
+-- where no count of faults rose, one status is answered, but for want of memory
+abbrev pub IsSure : Status → ℕ → ℕ → ℕ → ℕ → Status → Type 0
+IsSure sure store_before store_now sink_before sink_now status =
+    (Rose store_before store_now → ⊥) → (Rose sink_before sink_now → ⊥) → (status ≡ sure) ⊎ (status ≡ NoMemory)

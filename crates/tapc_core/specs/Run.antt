@@ -10,7 +10,7 @@ use Rattle.abstract_run.specs.State.{opening_state}
 use Rattle.abstract_run.specs.declared.label.Event.{Event}
 use Rattle.abstract_run.specs.declared.label.Label.{Label}
 use Rattle.abstract_run.specs.declared.state.State.{State}
-use Rattle.tap_base.specs.SmallText.{SmallText}
+use Rattle.tapc_core.specs.Offences.{Accepted}
 use Rattle.tapc_core.specs.TraceText.{label_lines, process_names}
 
 -- no inputs: an empty list for each process
@@ -31,16 +31,16 @@ pub record Files : Type 0 where
   pub text : Option (List ℕ)
   pub schedule : Option (List ℕ)
 
--- The text spells the system, and the schedule is this text, where they are told.
+-- The text is accepted as the system, and the schedule is this text, where they are told.
 pub record AreOf (system : System) (schedule : List ℕ) (files : Files) : Type 0 where
-  pub spelled : IfSome files.text (λ text. SmallText text system)
+  pub accepted : IfSome files.text (λ text. Accepted text system)
   pub schedule_is : IfSome files.schedule (λ text. schedule ≡ text)
 
--- A system of the small language, which the text of the system spells, and a run of it on some events.
+-- A system of the small language, as which the text of the system is accepted, and a run of it on some events.
 pub record Played (files : Files) : Type 0 where
   pub system : System
   pub small : IsSmall system
-  pub spelled : IfSome files.text (λ text. SmallText text system)
+  pub accepted : IfSome files.text (λ text. Accepted text system)
   pub events : List Event
   pub labels : List Label
   pub last : State

@@ -2,14 +2,18 @@
 use Rattle.std.specs.Prelude.{ℕ, Bool, true, false, ◌&&◌, List, [], ◌∷◌, ◌++◌, Option, Some, None, codes, if◌then◌else◌}
 use Rattle.std.specs.Str.{bytes_eq}
 use Rattle.tapc_core.specs.declared.words.Command.{Command}
-use Rattle.tapc_core.specs.declared.words.Command.TheVariants.{World}
+use Rattle.tapc_core.specs.declared.words.Command.TheVariants.{Check, Print, World}
 
 -- a command, by the words that it takes
 pub data Asked : Type 0 where
+  check : (system : List ℕ) → Asked
+  print : (system : List ℕ) → Asked
   world : (system schedule : List ℕ) → Asked
 
 -- what a command asks for
 abbrev pub asked_by : Command → Asked
+asked_by (Check system) = check system.now
+asked_by (Print system) = print system.now
 asked_by (World system schedule) = world system.now schedule.now
 
 -- a file word is any word that is not empty
@@ -19,6 +23,10 @@ is_file (c ∷ cs) = true
 
 -- the command that words are, or none
 abbrev pub command_of : List (List ℕ) → Option Asked
+command_of (word ∷ system ∷ []) =
+    if bytes_eq word (codes "check") && is_file system then Some (check system)
+    else if bytes_eq word (codes "print") && is_file system then Some (print system)
+    else None
 command_of (word ∷ system ∷ schedule ∷ []) =
     if bytes_eq word (codes "world") && is_file system && is_file schedule then Some (world system schedule) else None
 command_of _ = None

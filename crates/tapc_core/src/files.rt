@@ -1,41 +1,63 @@
-//! The files of a run, read.
+//! The files that a command works on, read.
 
-ghost use Rattle.std.specs.Prelude.{◌≡◌, ◌≢◌, ◌≤◌, ℕ, List, Err, IfOk, IfSome, length};
+ghost use Rattle.std.specs.Prelude.{◌≡◌, ℕ, List, Err, IfOk, IfSome};
 ghost use Rattle.tap_base.specs.Small.{IsSmall};
-ghost use Rattle.tap_base.specs.SmallText.{IsOutside, SmallText};
-ghost use Rattle.tapc_core.specs.Output.{IsRefused, files_named};
+ghost use Rattle.tapc_core.specs.FileFaults.{HasFileCause};
 ghost use Rattle.tapc_core.specs.Names.{AreNames};
+ghost use Rattle.tapc_core.specs.Offences.{Accepted, IsMisspelling, IsReadAs, Offends};
+ghost use Rattle.tapc_core.specs.Output.{files_named};
 ghost use Rattle.tapc_core.specs.Run.{AreOf};
 ghost use Rattle.tapc_core.specs.TraceText.{process_names};
-ghost use Rattle.tapc_core.specs.Unplayed.{HasReadingCause};
 
+use crate::offence::Offence;
 use crate::outside::Store;
 use crate::reading::{ReadError, Reading, read_text, read_whole};
+use crate::texts::{TextFault, accept, tree_of};
 use std::alloc::Global;
-use tap_base::{List, System};
-use tap_parser::{SmallFault, read_small};
+use tap_base::{Ast, List, Place, Refusal, RefusalCode, System};
+use tap_parser::ParseFault;
 
-/// Why a run does not begin.
+/// The offence of a text that is too long.
+const TOO_LONG: Offence = Offence::Coded(Refusal {
+    code: RefusalCode::L0,
+    place: Place { line: 1, column: 1 },
+});
+
+/// Why there is nothing to work on.
 #[derive(Clone, Copy, Debug, PartialEq, Eq)]
-pub enum Unplayed {
-    /// The text of the system is none of the small language.
-    Refused,
+pub enum FileFault {
+    /// The text of the system has this first offence.
+    Refused(Offence),
     /// A call of the store failed.
     ReadFault,
     /// Memory was refused.
     NoMemory,
 }
 
-impl From<ReadError> for Unplayed {
+impl From<ReadError> for FileFault {
     ghost use Rattle.std.specs.Prelude.{◌≡◌};
-    ghost use Rattle.tapc_core.specs.Unplayed.{unplayed_by};
+    ghost use Rattle.tapc_core.specs.FileFaults.{unread};
 
-    ghost from_gives = { λ e u. u ≡ unplayed_by e };
+    ghost from_gives = { λ e fault. fault ≡ unread e };
 
-    fn from(e: ReadError) -> Unplayed {
+    fn from(e: ReadError) -> FileFault {
         match e {
-            ReadError::Failed => Unplayed::ReadFault,
-            ReadError::NoMemory => Unplayed::NoMemory,
+            ReadError::Failed => FileFault::ReadFault,
+            ReadError::NoMemory => FileFault::NoMemory,
+        }
+    }
+}
+
+impl From<TextFault> for FileFault {
+    ghost use Rattle.std.specs.Prelude.{◌≡◌};
+    ghost use Rattle.tapc_core.specs.FileFaults.{unaccepted};
+
+    ghost from_gives = { λ e fault. fault ≡ unaccepted e };
+
+    fn from(e: TextFault) -> FileFault {
+        match e {
+            TextFault::Refused(offence) => FileFault::Refused(offence),
+            TextFault::NoMemory => FileFault::NoMemory,
         }
     }
 }
@@ -46,47 +68,50 @@ pub fn read_files<S: Store>(
     system: &str,
     schedule: &str,
     store: &mut S,
-) -> Result<(System, List<u8>), Unplayed>
+) -> Result<(System, List<u8>), FileFault>
     ensures small { IfOk result (λ r. IsSmall r.0) }
     ensures named { IfOk result (λ r. AreNames (process_names r.0)) }
     ensures read { IfOk result (λ r. AreOf r.0 r.1 (files_named system.now schedule.now (S.contents store.old))) }
-    ensures refused { result ≡ Err Unplayed.Refused → IfSome (S.contents store.old system.now) IsRefused }
-    ensures cause { HasReadingCause (S.faults store.old) (S.faults store.new) result }
+    ensures refused { (o : Offence) → result ≡ Err (FileFault.Refused o) → IfSome (S.contents store.old system.now) (λ text. Offends text o) }
+    ensures cause { HasFileCause (S.faults store.old) (S.faults store.new) result }
 {
     let system = read_system(alloc, system, store)?;
     match read_whole(alloc, store, schedule) {
         Ok(schedule) => Ok((system, schedule)),
-        Err(ReadError::Failed) => Err(Unplayed::ReadFault),
-        Err(ReadError::NoMemory) => Err(Unplayed::NoMemory),
+        Err(ReadError::Failed) => Err(FileFault::ReadFault),
+        Err(ReadError::NoMemory) => Err(FileFault::NoMemory),
     }
 }
 
-/// Reads the text of a system, and the system that it names.
-fn read_system<S: Store>(alloc: Global, name: &str, store: &mut S) -> Result<System, Unplayed>
+/// Reads the text of a system, and the system that it is accepted as. A text that is too long is refused L0
+/// at 1:1, whatever it holds.
+pub fn read_system<S: Store>(alloc: Global, name: &str, store: &mut S) -> Result<System, FileFault>
     ensures small { IfOk result IsSmall }
     ensures named { IfOk result (λ s. AreNames (process_names s)) }
-    ensures spelled { IfOk result (λ s. IfSome (S.contents store.old name.now) (λ text. SmallText text s)) }
-    ensures refused { result ≡ Err Unplayed.Refused → IfSome (S.contents store.old name.now) IsRefused }
+    ensures accepted { IfOk result (λ s. IfSome (S.contents store.old name.now) (λ text. Accepted text s)) }
+    ensures refused { (o : Offence) → result ≡ Err (FileFault.Refused o) → IfSome (S.contents store.old name.now) (λ text. Offends text o) }
     ensures stays { (n : List ℕ) → S.contents store.new n ≡ S.contents store.old n }
-    ensures cause { HasReadingCause (S.faults store.old) (S.faults store.new) result }
+    ensures cause { HasFileCause (S.faults store.old) (S.faults store.new) result }
 {
     match read_text(alloc, store, name)? {
-        Reading::Whole(text) => named_by(alloc, text.as_slice()),
-        Reading::TooLong => Err(Unplayed::Refused),
+        Reading::Whole(text) => Ok(accept(alloc, text.as_slice())?),
+        Reading::TooLong => Err(FileFault::Refused(TOO_LONG)),
     }
 }
 
-/// The system that a text names.
-pub fn named_by(alloc: Global, text: &[u8]) -> Result<System, Unplayed>
-    requires { length text.now ≤ 1048576 }
-    ensures system { IfOk result (λ s. SmallText text.now s) }
-    ensures named { IfOk result (λ s. AreNames (process_names s)) }
-    ensures refused { result ≡ Err Unplayed.Refused → IsOutside text.now }
-    ensures read { result ≢ Err Unplayed.ReadFault }
+/// Reads the text of a system, and the tree that it is read as. A text that is too long is refused L0 at 1:1,
+/// whatever it holds.
+pub fn read_tree<S: Store>(alloc: Global, name: &str, store: &mut S) -> Result<Ast, FileFault>
+    ensures read { IfOk result (λ tree. IfSome (S.contents store.old name.now) (λ text. IsReadAs text tree)) }
+    ensures refused { (o : Offence) → result ≡ Err (FileFault.Refused o) → IfSome (S.contents store.old name.now) (λ text. IsMisspelling text o) }
+    ensures cause { HasFileCause (S.faults store.old) (S.faults store.new) result }
 {
-    match read_small(alloc, text) {
-        Ok(system) => Ok(system),
-        Err(SmallFault::Outside) => Err(Unplayed::Refused),
-        Err(SmallFault::NoMemory) => Err(Unplayed::NoMemory),
+    match read_text(alloc, store, name)? {
+        Reading::Whole(text) => match tree_of(alloc, text.as_slice()) {
+            Ok(tree) => Ok(tree),
+            Err(ParseFault::Refused(refusal)) => Err(FileFault::Refused(Offence::Coded(refusal))),
+            Err(ParseFault::NoMemory) => Err(FileFault::NoMemory),
+        },
+        Reading::TooLong => Err(FileFault::Refused(TOO_LONG)),
     }
 }

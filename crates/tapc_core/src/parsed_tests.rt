@@ -6,15 +6,14 @@ ghost use Rattle.abstract_run.specs.Meaning.{meaning_of};
 ghost use Rattle.tap_base.specs.Lists.{Each};
 
 use super::run_rows::{COUNTER, PING};
-use crate::files::named_by;
 use crate::lines::numbered_event;
+use crate::texts::accept;
 use crate::world::no_inputs;
 use abstract_run::{Label, Outgoing, State, enabled, init, spell, step};
 use std::alloc::Global;
 use std::process::Abort;
 use std::test::Fail;
 use tap_base::{List, System};
-use tap_parser::read_small;
 
 /// The first action of a process.
 fn first_action(alloc: Global, process: u32) -> Label {
@@ -92,7 +91,7 @@ fn travel(rt: &impl Abort, alloc: Global, system: &System, state: &mut State) ->
 #[test]
 fn a_datagram_travels(rt: HostRuntime) -> Result<(), Fail> {
     let alloc = rt.alloc();
-    let Ok(system) = read_small(alloc, PING) else {
+    let Ok(system) = accept(alloc, PING) else {
         return Err("no system".into());
     };
     let inputs = no_inputs(alloc, &system)?;
@@ -102,7 +101,7 @@ fn a_datagram_travels(rt: HostRuntime) -> Result<(), Fail> {
 
 #[test]
 fn a_schedule_has_its_limit(rt: HostRuntime) -> Result<(), Fail> {
-    let Ok(system) = named_by(rt.alloc(), COUNTER) else {
+    let Ok(system) = accept(rt.alloc(), COUNTER) else {
         return Err("no system".into());
     };
     assert!(rt; numbered_event(1_000_000, b"turn a 0", &system).is_some());

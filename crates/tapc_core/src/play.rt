@@ -3,7 +3,7 @@
 ghost use Rattle.std.specs.Prelude.{◌≡◌, ◌++◌, IfOk, string_bytes};
 ghost use Rattle.tap_base.specs.Small.{IsSmall};
 ghost use Rattle.abstract_run.specs.Calm.{cells_in};
-ghost use Rattle.tapc_core.specs.Output.{HasSinkCause, IsPlayed, Writes, bad_line, no_memory_line};
+ghost use Rattle.tapc_core.specs.Output.{HasSinkCause, IsPlayed, OfWorld, Writes, bad_line, no_memory_line};
 ghost use Rattle.tapc_core.specs.Run.{AreOf, Files, opening};
 ghost use Rattle.tapc_core.specs.Serving.{IsSteady};
 ghost use Rattle.tapc_core.specs.Closing.{ClosesOr};
@@ -25,7 +25,7 @@ pub const NO_MEMORY: &[u8] = b"no memory\n";
 pub fn play<O: Sink>(alloc: Global, system: System, schedule: &[u8], out: &mut O) -> Status
     requires small { IsSmall system }
     requires named { AreNames (process_names system) }
-    ensures writes { (files : Files) → AreOf system schedule.now files → Writes files result (O.written out.old) (O.written out.new) }
+    ensures writes { (files : Files) → AreOf system schedule.now files → Writes (OfWorld files) result (O.written out.old) (O.written out.new) }
     ensures answer { IsPlayed result }
     ensures cause { HasSinkCause result (O.faults out.old) (O.faults out.new) }
 {
@@ -42,7 +42,7 @@ fn play_world<O: Sink>(alloc: Global, world: &mut World, schedule: &[u8], out: &
     requires opening { world.old.state ≡ opening world.old.system }
     requires no_cells { cells_in world.old.state ≡ 0 }
     requires named { AreNames (process_names world.old.system) }
-    ensures writes { (files : Files) → AreOf world.old.system schedule.now files → Writes files result (O.written out.old) (O.written out.new) }
+    ensures writes { (files : Files) → AreOf world.old.system schedule.now files → Writes (OfWorld files) result (O.written out.old) (O.written out.new) }
     ensures answer { IsPlayed result }
     ensures cause { HasSinkCause result (O.faults out.old) (O.faults out.new) }
 {

@@ -31,7 +31,7 @@ process a var k : 0..9 begin k = 0 -> k := 7; send hand(k) to b end \
 process b var seen : 0..255 begin rcv hand from a -> seen := hand.n; send hand(hand.n) to c end \
 process c var got : 0..255 begin rcv hand from b -> got := hand.n end";
 
-/// What is written of a text that is refused.
+/// What is written of a text of the whole language that is none of the small one.
 const REFUSED: &[u8] = b"refused S0 1:1\n";
 
 /// A process counts once, and is idle then.
@@ -69,8 +69,8 @@ const FIRST_OF_TWO: Row = (
     b"tick a 0\nact a 0\ntick a 0\nact a 0\nvar a x 1\nend\n",
 );
 
-/// An empty text names no system.
-const NO_TEXT: Row = (b"", b"", Status::Refused, REFUSED);
+/// An empty text has no tokens, and is no tree.
+const NO_TEXT: Row = (b"", b"", Status::Refused, b"refused S1 1:1\n");
 
 /// A datagram is sent, arrives, and is received.
 const TRAVELS: Row = (
@@ -208,7 +208,7 @@ const BLANK_LINE: Row = (
     b"tick b 0\nidle b\nbad line 2\n",
 );
 
-/// Parentheses are none of the language yet.
+/// Parentheses are none of the small language.
 const PARENTHESES: Row = (
     b"process a var k : 0..1 begin (k) = 0 -> skip end",
     b"",
@@ -257,14 +257,19 @@ const SENDS_TO_ITSELF: Row = (
 );
 
 /// A byte that is none of the alphabet.
-const STRAY_BYTE: Row = (b"process a begin \x01 end", b"", Status::Refused, REFUSED);
+const STRAY_BYTE: Row = (
+    b"process a begin \x01 end",
+    b"",
+    Status::Refused,
+    b"refused L1 1:17\n",
+);
 
 /// A number above 2^63 - 1.
 const LARGE_NUMBER: Row = (
     b"process a var k : 0..9223372036854775808 begin end",
     b"",
     Status::Refused,
-    REFUSED,
+    b"refused L2 1:22\n",
 );
 
 /// All of them.

@@ -5,7 +5,7 @@ use std::test::Fail;
 use tap_base::{List, NoMemory, Text};
 
 /// The words of a command line.
-fn words_of(alloc: Global, words: &[&str]) -> Result<List<Text>, NoMemory> {
+pub fn words_of(alloc: Global, words: &[&str]) -> Result<List<Text>, NoMemory> {
     let mut all = List::new(alloc);
     for word in words {
         all.push(Text::copy_of(alloc, word)?)?;
@@ -14,7 +14,7 @@ fn words_of(alloc: Global, words: &[&str]) -> Result<List<Text>, NoMemory> {
 }
 
 /// A store with a system and a schedule.
-fn store_of(alloc: Global, system: &[u8], schedule: &[u8]) -> Result<MemoryStore, NoMemory> {
+pub fn store_of(alloc: Global, system: &[u8], schedule: &[u8]) -> Result<MemoryStore, NoMemory> {
     let mut store = MemoryStore::new(alloc, 4096);
     store.add("s", system)?;
     store.add("t", schedule)?;
@@ -22,7 +22,7 @@ fn store_of(alloc: Global, system: &[u8], schedule: &[u8]) -> Result<MemoryStore
 }
 
 /// A sink with ample room.
-fn sink_of(alloc: Global) -> Result<MemorySink, NoMemory> {
+pub fn sink_of(alloc: Global) -> Result<MemorySink, NoMemory> {
     let mut out = MemorySink::new(alloc);
     out.reserve(65_536)?;
     Ok(out)
@@ -44,8 +44,16 @@ fn a_run_writes_its_trace(rt: HostRuntime) -> Result<(), Fail> {
 #[test]
 fn other_words_are_no_command(rt: HostRuntime) -> Result<(), Fail> {
     let mut store = store_of(rt.alloc(), COUNTER, b"")?;
-    let rows: [&[&str]; 7] = [
+    let rows: [&[&str]; 15] = [
         &[],
+        &["check"],
+        &["check", ""],
+        &["check", "s", "t"],
+        &["Check", "s"],
+        &["print"],
+        &["print", ""],
+        &["print", "s", "t"],
+        &["Print", "s"],
         &["world", "s"],
         &["world", "s", "t", "u"],
         &["World", "s", "t"],

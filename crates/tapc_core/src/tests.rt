@@ -102,6 +102,10 @@ fn words_are_commands(rt: HostRuntime) -> Result<(), Fail> {
     assert!(rt; command_of(none.as_slice()).is_none());
     for line in [
         "world|x",
+        "check",
+        "check|",
+        "check|x|y",
+        "Check|x",
         "world|x|y|z",
         "World|x|y",
         "world||y",
@@ -113,6 +117,11 @@ fn words_are_commands(rt: HostRuntime) -> Result<(), Fail> {
         let words = texts(rt.alloc(), line)?;
         assert!(rt; command_of(words.as_slice()).is_none(), "{line}");
     }
+    let words = texts(rt.alloc(), "check|a b")?;
+    assert_eq!(rt;
+        command_of(words.as_slice()),
+        Some(Command::Check { system: "a b" })
+    );
     let words = texts(rt.alloc(), "world|a b|-")?;
     let Some(Command::World { system, schedule }) = command_of(words.as_slice()) else {
         return Err("no command".into());

@@ -1,14 +1,24 @@
 //! The words of the command line.
 
-ghost use Rattle.std.specs.Prelude.{◌≡◌};
+ghost use Rattle.std.specs.Prelude.{◌≡◌, [], ◌∷◌};
 ghost use Rattle.std.specs.Option.{option_map};
-ghost use Rattle.tapc_core.specs.Words.{asked_by, command_of, is_file, usage_line, world};
+ghost use Rattle.tapc_core.specs.Words.{asked_by, command_of, is_file, usage_line};
 
 use tap_base::Text;
 
 /// A command, with the words that it takes.
 #[derive(Clone, Copy, Debug, PartialEq, Eq)]
 pub enum Command<'a> {
+    /// Checks the text of a system.
+    Check {
+        /// The name of the system's file.
+        system: &'a str,
+    },
+    /// Prints the canonical text of a system.
+    Print {
+        /// The name of the system's file.
+        system: &'a str,
+    },
     /// Runs the world of a system on a schedule.
     World {
         /// The name of the system's file.
@@ -22,9 +32,34 @@ pub enum Command<'a> {
 pub fn command_of<'a>(words: &'a [Text]) -> Option<Command<'a>>
     ensures { option_map asked_by result ≡ command_of words.now }
 {
-    let [word, system, schedule] = words else {
-        return None;
-    };
+    match words {
+        [word, system] => text_command_of(word, system),
+        [word, system, schedule] => world_of(word, system, schedule),
+        _ => None,
+    }
+}
+
+/// The command `check` or `print` on the file of a system.
+fn text_command_of<'a>(word: &'a Text, system: &'a Text) -> Option<Command<'a>>
+    ensures { option_map asked_by result ≡ command_of (word.now ∷ system.now ∷ []) }
+{
+    if word.as_str() == "check" && is_file(system) {
+        return Some(Command::Check {
+            system: system.as_str(),
+        });
+    }
+    if word.as_str() == "print" && is_file(system) {
+        return Some(Command::Print {
+            system: system.as_str(),
+        });
+    }
+    None
+}
+
+/// The command `world` on the files of a system and a schedule.
+fn world_of<'a>(word: &'a Text, system: &'a Text, schedule: &'a Text) -> Option<Command<'a>>
+    ensures { option_map asked_by result ≡ command_of (word.now ∷ system.now ∷ schedule.now ∷ []) }
+{
     if word.as_str() == "world" && is_file(system) && is_file(schedule) {
         return Some(Command::World {
             system: system.as_str(),
@@ -46,15 +81,4 @@ pub fn usage_line() -> &'static [u8]
     ensures { result.now ≡ usage_line }
 {
     b"usage: tapc check | print | compile | world | node | replay | make | soak\n"
-}
-
-impl<'a> Command<'a> {
-    /// The names of the files that a command takes: that of the system, and that of the schedule.
-    pub fn file_names(self) -> (&'a str, &'a str)
-        ensures { asked_by self.entry ≡ world result.0.now result.1.now }
-    {
-        match self {
-            Command::World { system, schedule } => (system, schedule),
-        }
-    }
 }

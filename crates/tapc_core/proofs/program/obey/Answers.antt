@@ -1,12 +1,10 @@
-use Rattle.std.proofs.Common.{◌∙◌, Some, ap, sym, subst}
-use Rattle.tapc_core.specs.Output.{Writes, asked_files}
+use Rattle.std.proofs.Common.{Option, subst}
+use Rattle.tapc_core.specs.Output.{OfNone, Output, Writes}
+use Rattle.tapc_core.specs.Words.{Asked}
 use Rattle.tapc_core.proofs.Outputs.{closes_alone}
 use Rattle.tapc_core.proofs.program.obey.Goals as goal
 
-pub returns-clause-writes : goal.returns-clause-writes
-returns-clause-writes g c =
-    subst (λ o. Writes (asked_files o (g.S.Store.contents c.args.store.now)) c.world.result (g.O.Sink.written c.args.out.now) (g.O.Sink.written c.world.new.out))
-    (sym (ap Some c.file_names.ensures) ∙ c.in-Some.ensures) c.world.ensures.writes
-
-pub returns-in_default-clause-writes : goal.returns-in_default-clause-writes
-returns-in_default-clause-writes g c = closes_alone _ c.usage_line.ensures c.close.ensures.closes
+pub returns-in-None-clause-writes : goal.returns-in-None-clause-writes
+returns-in-None-clause-writes g c =
+    let P : Option Asked → Type 0 = λ o. Writes (Output o (g.S.Store.contents c.args.store.now)) c.close.result (g.O.Sink.written c.args.out.now) (g.O.Sink.written c.close.new.out) in
+    subst P c.in-None.ensures (closes_alone OfNone c.usage_line.ensures c.close.ensures.closes)

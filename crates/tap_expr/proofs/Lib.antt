@@ -1,0 +1,15 @@
+pub mod ExprStops
+pub mod ExprFronts
+pub mod ExprJoins
+pub mod ExprRules
+pub mod ExprAtoms
+pub mod ExprOne
+pub mod ExprAlike
+pub mod ExprOutcomes
+pub mod ExprLevels
+pub mod ExprKinds
+pub mod ExprWholes
+pub mod ExprDepth
+pub mod ExprPlaced
+pub mod ExprEnds
+pub mod ExprWorked

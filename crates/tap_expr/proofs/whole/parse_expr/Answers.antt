@@ -1,0 +1,31 @@
+use Rattle.tap_base.specs.declared.ast.AstExpr.{AstExpr}
+use Rattle.tap_base.specs.ExprText.{IsUnspelled}
+use Rattle.tap_base.specs.Grammar.{Spells}
+use Rattle.tap_base.specs.Lexeme.{lexemes}
+use Rattle.tap_base.specs.Nodes.{nodes, most_nodes}
+use Rattle.std.proofs.Common.{◌<◌}
+use Rattle.tap_expr.proofs.ExprEnds.{deep_at, unspelled_at, large_at}
+use Rattle.tap_expr.proofs.ExprPlaced.{are_placed}
+use Rattle.tap_expr.proofs.whole.parse_expr.Goals as goal
+
+pub place_at-requires-clause-placed : goal.place_at-requires-clause-placed
+place_at-requires-clause-placed c = are_placed c.args.text.now c.args.tokens.now c.requires.lexed
+
+pub place_at-requires-in-Ok-Large-clause-placed : goal.place_at-requires-in-Ok-Large-clause-placed
+place_at-requires-in-Ok-Large-clause-placed c = are_placed c.args.text.now c.args.tokens.now c.requires.lexed
+
+pub place_at-requires-in-Err-At-clause-placed : goal.place_at-requires-in-Err-At-clause-placed
+place_at-requires-in-Err-At-clause-placed c = are_placed c.args.text.now c.args.tokens.now c.requires.lexed
+
+pub returns-in-Some : goal.returns-in-Some
+returns-in-Some c = deep_at c.args.text.now c.args.tokens.now c.in-Some.at _ c.place_at.ensures c.in-Some.ensures
+
+pub returns-in-Ok-Large : goal.returns-in-Ok-Large
+returns-in-Ok-Large c =
+    let h : (e : AstExpr) × Spells (lexemes c.args.text.now c.args.tokens.now) e × (most_nodes < nodes e) = rw c.in-Ok-Large.field-0-is at c.in-Ok-Large.ensures in
+    large_at c.args.text.now c.args.tokens.now h.0 _ c.place_at-in-Ok-Large.ensures c.in_default.ensures h.1 h.2
+
+pub returns-in-Err-At : goal.returns-in-Err-At
+returns-in-Err-At c =
+    let h : IsUnspelled (lexemes c.args.text.now c.args.tokens.now) c.in-Err-At.at = rw c.in-Err-At.field-0-is at c.in-Err-At.ensures in
+    unspelled_at c.args.text.now c.args.tokens.now c.in-Err-At.at _ c.place_at-in-Err-At.ensures c.in_default.ensures h

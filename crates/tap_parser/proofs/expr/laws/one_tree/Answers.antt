@@ -1,9 +1,0 @@
-use Rattle.tap_parser.proofs.ExprEnds.{one_tree}
-use Rattle.tap_parser.proofs.ExprOne.{one_reading}
-use Rattle.tap_parser.proofs.expr.laws.one_tree.Goals as goal
-
-pub returns-clause-tree : goal.returns-clause-tree
-returns-clause-tree c = one_tree
-
-pub returns-clause-reading : goal.returns-clause-reading
-returns-clause-reading c = one_reading

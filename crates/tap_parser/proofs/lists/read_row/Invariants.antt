@@ -1,0 +1,11 @@
+use Rattle.std.proofs.Common.{◌-◌, length}
+use Rattle.tap_base.specs.Lexeme.{lexemes}
+use Rattle.tap_parser.proofs.TextBlocks.{RowLists}
+use Rattle.tap_parser.proofs.TextLists.{Leads}
+use Rattle.tap_parser.proofs.lists.read_row.Given as goal
+
+abbrev pub invariant-items : goal.invariant-items
+invariant-items g l = Leads g.F.Form.spelled (RowLists g.F.Form.spelled g.F.Form.stops l.word) g.F.Form.stops l.word (lexemes l.source.text.now l.source.tokens.now) l.at l.next l.value
+
+abbrev pub decreases-items : goal.decreases-items
+decreases-items g l = length l.source.tokens.now - l.next

@@ -1,5 +1,0 @@
-use Rattle.tap_parser.proofs.TokenPlaces.{seen}
-use Rattle.tap_parser.proofs.source.Source.token.Goals as goal
-
-pub returns-clause-seen : goal.returns-clause-seen
-returns-clause-seen c = seen c.args.self.now.text.now c.args.self.now.tokens.now c.args.at _ c.token_at.ensures

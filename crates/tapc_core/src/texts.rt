@@ -1,0 +1,64 @@
+//! From the text of a system to its tree and to the system, or to the first offence.
+
+ghost use Rattle.std.specs.Prelude.{◌≤◌, IfOk, length};
+ghost use Rattle.tapc_core.specs.Names.{AreNames};
+ghost use Rattle.tapc_core.specs.Offences.{TextReads, TreeReads};
+ghost use Rattle.tapc_core.specs.TraceText.{process_names};
+
+use crate::offence::Offence;
+use std::alloc::Global;
+use tap_base::{Ast, System};
+use tap_lexer::{LexFault, lex};
+use tap_parser::{ParseFault, parse};
+use tap_small::{SmallFault, read_small};
+
+/// Why a text gives no system.
+#[derive(Clone, Copy, Debug, PartialEq, Eq)]
+pub enum TextFault {
+    /// The text has this first offence.
+    Refused(Offence),
+    /// Memory was refused.
+    NoMemory,
+}
+
+impl From<ParseFault> for TextFault {
+    ghost use Rattle.std.specs.Prelude.{◌≡◌};
+    ghost use Rattle.tapc_core.specs.FileFaults.{misspelled};
+
+    ghost from_gives = { λ e fault. fault ≡ misspelled e };
+
+    fn from(e: ParseFault) -> TextFault {
+        match e {
+            ParseFault::Refused(refusal) => TextFault::Refused(Offence::Coded(refusal)),
+            ParseFault::NoMemory => TextFault::NoMemory,
+        }
+    }
+}
+
+/// The tree that a text is read as, or its first offence: L1 or L2 where it has no tokens; else S2, S1 or S3
+/// where these are no tree within the limits.
+pub fn tree_of(alloc: Global, text: &[u8]) -> Result<Ast, ParseFault>
+    requires { length text.now ≤ 1048576 }
+    ensures { TreeReads text.now result }
+{
+    match lex(alloc, text) {
+        Ok(tokens) => parse(alloc, text, tokens.as_slice()),
+        Err(LexFault::Refused(refusal)) => Err(ParseFault::Refused(refusal)),
+        Err(LexFault::NoMemory) => Err(ParseFault::NoMemory),
+    }
+}
+
+/// The system that a text is accepted as, or its first offence: the one that keeps it from being read as a
+/// tree; else S0 where it names no system of the small language.
+pub fn accept(alloc: Global, text: &[u8]) -> Result<System, TextFault>
+    requires { length text.now ≤ 1048576 }
+    ensures reads { TextReads text.now result }
+    ensures named { IfOk result (λ s. AreNames (process_names s)) }
+{
+    let _tree = tree_of(alloc, text)?;
+    match read_small(alloc, text) {
+        Ok(system) => Ok(system),
+        Err(SmallFault::Outside) => Err(TextFault::Refused(Offence::Outside)),
+        Err(SmallFault::NoMemory) => Err(TextFault::NoMemory),
+    }
+}
