@@ -1,5 +1,5 @@
 -- Offences of the tokens of an expression.
-use Rattle.std.proofs.Common.{◌≡◌, ℕ, ◌+◌, ◌<◌, ◌≤◌, refl, sym, ◌∙◌, ap, subst, List, [], ◌∷◌, ◌++◌, take, drop, length, arith}
+use Rattle.std.proofs.Common.{◌≡◌, ℕ, ◌+◌, ◌<◌, ◌≤◌, min, refl, sym, ◌∙◌, ap, subst, List, [], ◌∷◌, ◌++◌, take, drop, length, arith}
 use Rattle.std.proofs.lemmas.List.{take-append-drop}
 use Rattle.tap_base.specs.declared.place.Place.{Place}
 use Rattle.tap_base.specs.declared.ast.AstExpr.{AstExpr}
@@ -13,13 +13,14 @@ use Rattle.tap_base.specs.Lexeme.{Lexeme, lexemes}
 use Rattle.tap_base.specs.Nodes.{nodes, most_nodes}
 use Rattle.tap_base.specs.Places.{place_at}
 use Rattle.tap_expr.proofs.ExprOne.{one_reading}
+use Rattle.tap_expr.proofs.ExprStopped.{stopped_place}
 
 module _ (text : List ℕ) (tokens : List Token) where
   pub deep_at : (k : ℕ) (p : Place) → p ≡ place_at tokens k → IsTooDeep (lexemes text tokens) k → ExprOffence text tokens (refusal code.S2 p)
   deep_at k p e d = let P : Place → Type 0 = λ q. ExprOffence text tokens (refusal code.S2 q) in subst P (sym e) (deep d)
 
-  pub unspelled_at : (k : ℕ) (p : Place) → p ≡ place_at tokens k → IsShallow (lexemes text tokens) → IsUnspelled (lexemes text tokens) k → ExprOffence text tokens (refusal code.S1 p)
-  unspelled_at k p e s u = let P : Place → Type 0 = λ q. ExprOffence text tokens (refusal code.S1 q) in subst P (sym e) (unspelled s u)
+  pub unspelled_at : (k : ℕ) (p : Place) → p ≡ place_at tokens k → IsShallow (lexemes text tokens) → IsUnspelled (lexemes text tokens) (min k (length (lexemes text tokens))) → ExprOffence text tokens (refusal code.S1 p)
+  unspelled_at k p e s u = let P : Place → Type 0 = λ q. ExprOffence text tokens (refusal code.S1 q) in subst P (sym (e ∙ stopped_place text tokens k)) (unspelled s u)
 
   pub large_at : (d : AstExpr) (p : Place) → p ≡ place_at tokens 0 → IsShallow (lexemes text tokens) → Spells (lexemes text tokens) d → most_nodes < nodes d → ExprOffence text tokens (refusal code.S3 p)
   large_at d p e s r m = let P : Place → Type 0 = λ q. ExprOffence text tokens (refusal code.S3 q) in subst P (sym e) (large s r m)

@@ -8,6 +8,7 @@ pub mod ExprAlike
 pub mod ExprOutcomes
 pub mod ExprLevels
 pub mod ExprKinds
+pub mod ExprStopped
 pub mod ExprWholes
 pub mod ExprDepth
 pub mod ExprPlaced

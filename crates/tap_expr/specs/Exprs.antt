@@ -1,5 +1,5 @@
 -- What reading a whole expression answers.
-use Rattle.std.specs.Prelude.{◌≡◌, ℕ, ◌+◌, ◌≤◌, List, slice_get, Option, Some, None, Result, Ok, Err}
+use Rattle.std.specs.Prelude.{◌≡◌, ℕ, ◌+◌, ◌≤◌, min, List, length, slice_get, Option, Some, None, Result, Ok, Err}
 use Rattle.tap_base.specs.declared.ast.AstExpr.{AstExpr}
 use Rattle.tap_base.specs.declared.token.Token.{Token}
 use Rattle.tap_base.specs.Lexeme.{Lexeme, lexemes}
@@ -22,10 +22,10 @@ Deepens xs None = IsShallow xs
 abbrev pub ArePlaced : List Token → Type 0
 ArePlaced tokens = (k : ℕ) (t : Token) → slice_get tokens k ≡ Some t → t.place.column ≤ t.start + 1
 
--- what is kept of the expression that all the tokens spell, or that they spell none
+-- what is kept of the expression that all the tokens spell, or that they spell none; a number beyond the tokens stands for their end
 abbrev pub WholeAnswers : List Lexeme → Result Built Stuck → Type 0
 WholeAnswers xs (Ok b) = (e : AstExpr) × Spells xs e × IsBuilt e b
-WholeAnswers xs (Err (stuck.At k)) = IsUnspelled xs k
+WholeAnswers xs (Err (stuck.At k)) = IsUnspelled xs (min k (length xs))
 WholeAnswers xs (Err stuck.NoMemory) = Unit {0}
 
 -- the expression that all the tokens are, or their first offence

@@ -23,7 +23,6 @@ use tap_lexer::{Found, Source};
 /// nodes, at its first token.
 pub fn parse_expr(alloc: Global, text: &[u8], tokens: &[Token]) -> Result<AstExpr, ParseFault>
     requires sized { length text.now ≤ 1048576 }
-    requires texts { AreTexts text.now tokens.now }
     requires lexed { SpellsTokens text.now tokens.now }
     ensures { ExprAnswers text.now tokens.now result }
 {

@@ -19,17 +19,12 @@ abbrev pub Lacks : Sign → List Lexeme → Type 0
 Lacks s [] = Unit {0}
 Lacks s (x ∷ us) = x.sign ≡ s → ⊥
 
--- a token with the sign stands at a place
+-- x is the token at a place, and has the sign
 pub record IsTaken (s : Sign) (xs : List Lexeme) (at : ℕ) (x : Lexeme) : Type 0 where
   pub stands : Stands xs at x
   pub is : x.sign ≡ s
 
 -- some token with the sign stands at a place
-pub record Begins (s : Sign) (xs : List Lexeme) (at : ℕ) : Type 0 where
-  pub token : Lexeme
-  pub taken : IsTaken s xs at token
-
--- a token with the sign stands at a place
 pub record Shows (s : Sign) (xs : List Lexeme) (at : ℕ) : Type 0 where
   pub x : Lexeme
   pub stands : Stands xs at x

@@ -1,5 +1,5 @@
 -- Offences of the tokens of a text.
-use Rattle.std.proofs.Common.{◌≡◌, ℕ, ◌+◌, ◌-◌, ◌<◌, ◌≤◌, refl, sym, ◌∙◌, ap, subst, inl, inr, ◌⊎◌, List, ◌++◌, Some, take, drop, length, arith}
+use Rattle.std.proofs.Common.{◌≡◌, ℕ, ◌+◌, ◌-◌, ◌<◌, ◌≤◌, min, refl, sym, ◌∙◌, ap, subst, inl, inr, ◌⊎◌, List, ◌++◌, Some, take, drop, length, arith}
 use Rattle.std.proofs.lemmas.List.{take-append-drop, length-drop}
 use Rattle.tap_base.specs.declared.ast.Ast.{Ast}
 use Rattle.tap_base.specs.declared.ast.AstExpr.{AstExpr}
@@ -12,14 +12,15 @@ use Rattle.tap_base.specs.declared.refusal.Refusal.{Refusal}
 use Rattle.tap_base.specs.Lexeme.{Lexeme, lexemes}
 use Rattle.tap_base.specs.Places.{place_at}
 use Rattle.tap_base.specs.Systems.{IsTree, IsUntold, IsTooLarge, TextOffence, deep, unspelled, large, Sized, SpellsText, SpellsTo, OneTextFront, OneTextEnd}
-use Rattle.tap_parser.proofs.TextWeaker.{weaker}
+use Rattle.tap_base.proofs.Weaker.{weaker}
+use Rattle.tap_expr.proofs.ExprStopped.{stopped_place}
 
 module _ (text : List ℕ) (tokens : List Token) where
   pub deep_at : (k : ℕ) (p : Place) → p ≡ place_at tokens k → IsTooDeep (lexemes text tokens) k → TextOffence text tokens (refusal code.S2 p)
   deep_at k p e d = let P : Place → Type 0 = λ q. TextOffence text tokens (refusal code.S2 q) in subst P (sym e) (deep d)
 
-  pub untold_at : (k : ℕ) (p : Place) → p ≡ place_at tokens k → IsShallow (lexemes text tokens) → IsUntold (lexemes text tokens) k → TextOffence text tokens (refusal code.S1 p)
-  untold_at k p e s u = let P : Place → Type 0 = λ q. TextOffence text tokens (refusal code.S1 q) in subst P (sym e) (unspelled s u)
+  pub untold_at : (k : ℕ) (p : Place) → p ≡ place_at tokens k → IsShallow (lexemes text tokens) → IsUntold (lexemes text tokens) (min k (length (lexemes text tokens))) → TextOffence text tokens (refusal code.S1 p)
+  untold_at k p e s u = let P : Place → Type 0 = λ q. TextOffence text tokens (refusal code.S1 q) in subst P (sym (e ∙ stopped_place text tokens k)) (unspelled s u)
 
   pub large_at : (k : ℕ) (p : Place) → p ≡ place_at tokens k → IsShallow (lexemes text tokens) → IsTooLarge (lexemes text tokens) k → TextOffence text tokens (refusal code.S3 p)
   large_at k p e s l = let P : Place → Type 0 = λ q. TextOffence text tokens (refusal code.S3 q) in subst P (sym e) (large s l)

@@ -15,7 +15,7 @@ use Rattle.tap_base.specs.SmallGrammar.{ident, Separated, last, more, SomeSepara
 use Rattle.tap_lexer.specs.Reading.{Lacks, Free, Closed, closed, Only}
 use Rattle.tap_parser.specs.declared.leaves.Numeral.{Numeral}
 use Rattle.tap_parser.specs.Forms.{Begins, IsNumeral, numeral}
-use Rattle.tap_parser.proofs.TextParts.{Form, Follow, Both, After, after}
+use Rattle.tap_parser.proofs.TextParts.{begun, Form, Follow, Both, After, after}
 use Rattle.tap_parser.proofs.TextBounds.{Number, Bounds, ToBound, OfScalar, unroll_minus, unroll_plain, unroll_named, unroll_counted, boolean_only, unroll_between, unroll_array, unroll_single}
 
 abbrev pub Rel : Type 0 → Type 1
@@ -84,10 +84,6 @@ module _ {A : Type 0} (Item : Rel A) (S : Follow) (s : Sign) (parted : (x : Lexe
       abbrev pub BlockStops : Follow
       BlockStops us = ListStops us × Lacks word us
 
-      begun : (ts : List Lexeme) → Begins word ts → Lacks word ts → ⊥
-      begun [] b l = b
-      begun (x ∷ us) b l = l b
-
       pub one_block : {l : List A} {ts us : List Lexeme} → Block Item word s l ts us → BlockStops us → Only (Block Item word s) BlockStops ts l us
       one_block {ts} no_block_there h = λ b ws r k. go ts h.1 b ws r
         where
@@ -122,10 +118,6 @@ module _ {A : Type 0} (Item : Rel A) (S : Follow) (s : Sign) (parted : (x : Lexe
 -- ---- rows
 
 module _ {A : Type 0} (Item : Rel A) (word : Sign) (begins : (a : A) (ts us : List Lexeme) → Item a ts us → Begins word ts) (alone : (a : A) (ts us : List Lexeme) → Item a ts us → Only Item Free ts a us) where
-  stuck : (ts : List Lexeme) → Begins word ts → Lacks word ts → ⊥
-  stuck [] b l = b
-  stuck (x ∷ us) b l = l b
-
   row_begins : {l : List A} {ts us : List Lexeme} → Row Item l ts us → Begins word ts
   row_begins (last {a} {ts} {us} i) = begins a ts us i
   row_begins (more {a} {ts} {us} i r) = begins a ts us i
@@ -135,11 +127,11 @@ module _ {A : Type 0} (Item : Rel A) (word : Sign) (begins : (a : A) (ts us : Li
     where
       go : (b : List A) (ws : List Lexeme) → Row Item b ts ws → Lacks word ws → (b ≡ a ∷ []) × (ws ≡ us)
       go b ws (last {a = c} j) k = let q = alone a ts us i c ws j tt in (ap (λ v. v ∷ []) q.0, q.1)
-      go b ws (more {a = c} {us = ks} j r) k = let q = alone a ts us i c ks j tt in let G : List Lexeme → Type 0 = λ v. Begins word v in absurd (stuck us (subst G q.1 (row_begins r)) h)
+      go b ws (more {a = c} {us = ks} j r) k = let q = alone a ts us i c ks j tt in let G : List Lexeme → Type 0 = λ v. Begins word v in absurd (begun word us (subst G q.1 (row_begins r)) h)
   one_row (more {a} {as_ = m} {ts} {us} {ws} i r) h = λ b vs q k. go (one_row r h) b vs q k
     where
       go : Only (Row Item) (Lacks word) us m ws → (b : List A) (vs : List Lexeme) → Row Item b ts vs → Lacks word vs → (b ≡ a ∷ m) × (vs ≡ ws)
-      go one b vs (last {a = c} j) k = let q = alone a ts us i c vs j tt in let G : List Lexeme → Type 0 = λ v. Begins word v in absurd (stuck vs (subst G (sym q.1) (row_begins r)) k)
+      go one b vs (last {a = c} j) k = let q = alone a ts us i c vs j tt in let G : List Lexeme → Type 0 = λ v. Begins word v in absurd (begun word vs (subst G (sym q.1) (row_begins r)) k)
       go one b vs (more {a = c} {as_ = n} {us = ks} j p) k =
           let q = alone a ts us i c ks j tt in
           let G : List Lexeme → Type 0 = λ v. Row Item n v vs in

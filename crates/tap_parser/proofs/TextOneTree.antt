@@ -26,7 +26,7 @@ use Rattle.tap_lexer.specs.Reading.{Lacks, Free, closed, Only}
 use Rattle.tap_expr.specs.ExprReading.{Stops}
 use Rattle.tap_expr.proofs.ExprOne.{one_reading}
 use Rattle.tap_parser.specs.Forms.{Begins, StmtStops, BodyStops, BranchesStop, Declared, AreDeclared, parts}
-use Rattle.tap_parser.proofs.TextParts.{Both, after}
+use Rattle.tap_parser.proofs.TextParts.{begun, Both, after}
 use Rattle.tap_parser.proofs.TextBounds.{Name, Number, Types}
 use Rattle.tap_parser.proofs.TextDeclared.{ToSigned, const_of, ToScalar, input_of, Initial, ToType, var_of, Fixed, ToFixed, ToWidth, field_of, FieldList, ToFields, NamedFields, message_of, message_begins, end_after_field, unroll_const, unroll_input, unroll_var, unroll_field, unroll_message}
 use Rattle.tap_parser.proofs.TextExprs.{no_index, Index, Bracketed, bare, indexed, unroll_target, targets_begin, Opens, sized_opens, unopened}
@@ -179,20 +179,16 @@ module _ (n : Option ℕ) where
 
 -- ---- whole texts
 
-begun : (ks : List Lexeme) → Begins sign.Message ks → Lacks sign.Message ks → ⊥
-begun [] b l = b
-begun (x ∷ vs) b l = l b
-
 one_rows : {l : List AstMessage} {ts us : List Lexeme} → Rows IsMessage l ts us → Lacks sign.Message us → Only (Rows IsMessage) (Lacks sign.Message) ts l us
 one_rows {ts} none h = λ b ws r k. go ts h b ws r
   where
     go : (ks : List Lexeme) → Lacks sign.Message ks → (b : List AstMessage) (ws : List Lexeme) → Rows IsMessage b ks ws → (b ≡ []) × (ws ≡ ks)
     go ks l b ws none = (refl, refl)
-    go ks l b ws (more_rows {a} {us = vs} i r) = absurd (begun ks (message_begins a ks vs i) l)
+    go ks l b ws (more_rows {a} {us = vs} i r) = absurd (begun sign.Message ks (message_begins a ks vs i) l)
 one_rows (more_rows {a} {as_ = m} {ts} {us} {ws} i r) h = λ b vs q k. go ts i (one_rows r h) b vs q k
   where
     go : (hs : List Lexeme) → IsMessage a hs us → Only (Rows IsMessage) (Lacks sign.Message) us m ws → (b : List AstMessage) (vs : List Lexeme) → Rows IsMessage b hs vs → Lacks sign.Message vs → (b ≡ a ∷ m) × (vs ≡ ws)
-    go hs f one b vs none k = absurd (begun hs (message_begins a hs us f) k)
+    go hs f one b vs none k = absurd (begun sign.Message hs (message_begins a hs us f) k)
     go hs f one b vs (more_rows {a = c} {as_ = n} {us = ks} j p) k =
         let q = one_message a hs us f c ks j tt in
         let G : List Lexeme → Type 0 = λ v. Rows IsMessage n v vs in

@@ -1,5 +1,6 @@
 -- All the tokens of a text.
-use Rattle.std.proofs.Common.{◌≡◌, ℕ, ◌+◌, ◌-◌, ◌<◌, ◌≤◌, refl, sym, subst, List, [], ◌++◌, Option, Some, None, true, Result, Ok, Err, IsErrAnd, take, drop, length, ltb-true, lt-ltb, arith}
+use Rattle.std.proofs.Common.{◌≡◌, ℕ, ◌+◌, ◌-◌, ◌<◌, ◌≤◌, min, refl, sym, subst, List, [], ◌++◌, Option, Some, None, true, Result, Ok, Err, IsErrAnd, take, drop, length, ltb-true, lt-ltb, arith}
+use Rattle.std.proofs.Math.Nat.{min-le_right}
 use Rattle.std.proofs.lemmas.List.{drop_all, length-map, length-drop}
 use Rattle.tap_base.specs.declared.ast.Ast.{Ast}
 use Rattle.tap_base.specs.declared.token.Sign.TheVariants as sign
@@ -18,6 +19,7 @@ use Rattle.tap_parser.specs.Forms.{AreSystem, system as read_system}
 use Rattle.tap_parser.specs.Reading.{Verdict, asks, Agrees, Answers}
 use Rattle.tap_parser.specs.Texts.{SystemAnswers}
 use Rattle.tap_expr.proofs.ExprAlike.{longer_as}
+use Rattle.tap_expr.proofs.ExprStopped.{before_end}
 use Rattle.tap_expr.proofs.ExprWholes.{front_alike}
 use Rattle.tap_parser.proofs.TextProcesses.{Systems}
 use Rattle.tap_parser.proofs.TextWeaker.{unasked, asked_none}
@@ -31,15 +33,19 @@ to_system n ts us tree e (read_system {messages} {processes} {us = ks} m p) = le
 of_system : (n : Option ℕ) (ts : List Lexeme) (tree : Ast) → SpellsOver (Sized n) ts tree → AreSystem (Sized n) tree ts []
 of_system n ts tree (system m p) = read_system m p
 
-untold : (xs : List Lexeme) (k : ℕ) → ((ys : List Lexeme) → Alike (k + 1) xs ys → (tree : Ast) → SpellsText ys tree → ⊥) → IsUntold xs k
+untold : (xs : List Lexeme) (k : ℕ) → ((ys : List Lexeme) → Alike (k + 1) xs ys → (tree : Ast) → SpellsText ys tree → ⊥) → IsUntold xs (min k (length xs))
 untold xs k h = record {
+  within = min-le_right k (length xs);
   none = λ tree r. h xs refl tree r;
-  front = λ l us tree r. h (take (k + 1) xs ++ us) (front_alike xs us k l) tree r;
+  front = λ l us tree r.
+      let q = before_end k (length xs) l in
+      let G : ℕ → Type 0 = λ m. SpellsText (take (m + 1) xs ++ us) tree in
+      h (take (k + 1) xs ++ us) (front_alike xs us k (omega (arith, l, q))) tree (subst G q r);
 }
 
 pub whole_refused : (xs : List Lexeme) (r : Result (Kept Ast) Stuck) (s : Stuck) → IsErrAnd r (λ e. e ≡ s) → Answers Systems (Lacks sign.Process) xs 0 (Err s) → SystemAnswers xs r
 whole_refused xs (Ok e) s p h = absurd p
-whole_refused xs (Err (stuck.At k)) (stuck.At i) p h = let q : i ≡ k = cc in let G : ℕ → Type 0 = λ z. IsUntold xs z in subst G q (untold xs i (λ ys same tree r. h.1 ys same None tree [] (of_system None ys tree (asked_none ys tree r)) tt))
+whole_refused xs (Err (stuck.At k)) (stuck.At i) p h = let q : i ≡ k = cc in let G : ℕ → Type 0 = λ z. IsUntold xs (min z (length xs)) in subst G q (untold xs i (λ ys same tree r. h.1 ys same None tree [] (of_system None ys tree (asked_none ys tree r)) tt))
 whole_refused xs (Err (stuck.At k)) stuck.NoMemory p h = absurd cc
 whole_refused xs (Err stuck.NoMemory) s p h = tt
 
@@ -53,7 +59,7 @@ longer_tree : (n : Option ℕ) (ys : List Lexeme) (m : ℕ) (o : Option Ast) (tr
 longer_tree n ys m (Some t) tree far v r = far (sym (v.only tree [] r tt).1)
 longer_tree n ys m None tree far v r = v tree [] r tt
 
-pub whole_longer : (text : List ℕ) (ts : List Token) (f : Found (Kept Ast)) → Answers Systems (Lacks sign.Process) (lexemes text ts) 0 (Ok f) → f.next < length ts → IsUntold (lexemes text ts) f.next
+pub whole_longer : (text : List ℕ) (ts : List Token) (f : Found (Kept Ast)) → Answers Systems (Lacks sign.Process) (lexemes text ts) 0 (Ok f) → f.next < length ts → IsUntold (lexemes text ts) (min f.next (length (lexemes text ts)))
 whole_longer text ts f h l = untold (lexemes text ts) f.next (λ ys same tree r.
     let v = h.2 ys same None in
     longer_tree None ys f.next v.0 tree (longer_as (lexemes text ts) ys (f.next + 1) same f.next (omega arith) (rw (length-map ts (lexeme text)) l)) v.1 (of_system None ys tree (asked_none ys tree r)))

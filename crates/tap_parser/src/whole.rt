@@ -19,7 +19,6 @@ use tap_lexer::Source;
 /// token of the first expression that has more than 200 nodes.
 pub fn parse(alloc: Global, text: &[u8], tokens: &[Token]) -> Result<Ast, ParseFault>
     requires sized { length text.now ≤ 1048576 }
-    requires texts { AreTexts text.now tokens.now }
     requires lexed { SpellsTokens text.now tokens.now }
     ensures { TextAnswers text.now tokens.now result }
 {

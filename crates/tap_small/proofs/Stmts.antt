@@ -9,7 +9,7 @@ use Rattle.tap_base.specs.declared.token.Sign.TheVariants as sign
 use Rattle.tap_base.specs.Lexeme.{Lexeme}
 use Rattle.tap_base.specs.SmallGrammar.{Separated, SomeSeparated, ident, whole, IsAtom, IsStmt, skip, assign, send}
 use Rattle.tap_lexer.specs.declared.found.Found.{Found}
-use Rattle.tap_lexer.specs.Reading.{Lacks, IsTaken, Begins, Free, Closed, closed, Never, Only}
+use Rattle.tap_lexer.specs.Reading.{Lacks, IsTaken, Shows, Free, Closed, closed, Never, Only}
 use Rattle.tap_small.specs.Reading.{IsRead}
 use Rattle.tap_lexer.proofs.TokenPlaces.{lacks_not, lacks_one}
 use Rattle.tap_small.proofs.Signs.{Signed, SignAt, unsigned, behind_signs, two, three}
@@ -74,11 +74,11 @@ signed {ts} k = let P : List Lexeme → Type 0 = λ z. Signed signs z k.ks in su
 second : (x y a b : Lexeme) (us ws : List Lexeme) → x ∷ y ∷ us ≡ a ∷ b ∷ ws → y ≡ b
 second x y a b us ws e = heads y b us ws (tails x a (y ∷ us) (b ∷ ws) e)
 
-module _ (xs : List Lexeme) (at : ℕ) (begun : Begins sign.Send xs at) where
+module _ (xs : List Lexeme) (at : ℕ) (shown : Shows sign.Send xs at) where
   parts : (b : AstStmt) (us : List Lexeme) → IsStmt b (drop at xs) us → SendParts b (drop at xs) us
   parts b us r = send_parts r
-      (lacks_one sign.Send sign.Skip (drop at xs) (drop (at + 1) xs) begun.token begun.taken.stands.cut begun.taken.is (λ e. absurd cc))
-      (lacks_one sign.Send sign.Name (drop at xs) (drop (at + 1) xs) begun.token begun.taken.stands.cut begun.taken.is (λ e. absurd cc))
+      (lacks_one sign.Send sign.Skip (drop at xs) (drop (at + 1) xs) shown.x shown.stands.cut shown.is (λ e. absurd cc))
+      (lacks_one sign.Send sign.Name (drop at xs) (drop (at + 1) xs) shown.x shown.stands.cut shown.is (λ e. absurd cc))
 
   pub send_no_sign : (k : ℕ) (s : Sign) → SignAt signs k s → Lacks s (drop (at + k) xs) → Never IsStmt (Lacks sign.Dot) (drop at xs)
   send_no_sign k s e l a us r f = let q = parts a us r in unsigned xs at k signs s q.ks e l (signed q)
@@ -104,14 +104,14 @@ module _ (xs : List Lexeme) (at : ℕ) (begun : Begins sign.Send xs at) where
 
     pub send_found : (y z v u : Lexeme) (s : AstStmt) → IsTaken sign.Name xs (at + 1) y → IsTaken sign.Open xs (at + 2) z → IsTaken sign.To xs g.next v → IsTaken sign.Name xs (g.next + 1) u → s ≡ stmt.Send (ident y) g.value (ident u) → IsRead IsStmt (Lacks sign.Dot) xs at (record { value = s; next = g.next + 2 })
     send_found y z v u s p q r t e =
-        let x = begun.token in
-        let front = three xs at x y z begun.taken.stands p.stands q.stands in
+        let x = shown.x in
+        let front = three xs at x y z shown.stands p.stands q.stands in
         let back = two xs g.next v u r.stands t.stands in
         valued IsStmt (Lacks sign.Dot) xs at (g.next + 2) s (stmt.Send (ident y) g.value (ident u)) e (record {
           within = let b = t.stands.below in omega arith;
           further = let b = h.further in omega arith;
           spelled = at_front IsStmt (stmt.Send (ident y) g.value (ident u)) (drop at xs) (x ∷ y ∷ z ∷ drop (at + 3) xs) (drop (g.next + 2) xs) front
-              (send_of_parts x y z v u g.value begun.taken.is p.is q.is (behind (Closed (SomeSeparated IsAtom sign.Comma) sign.Close) g.value (drop (at + 3) xs) (drop g.next xs) (v ∷ u ∷ drop (g.next + 2) xs) back h.spelled) r.is t.is);
+              (send_of_parts x y z v u g.value shown.is p.is q.is (behind (Closed (SomeSeparated IsAtom sign.Comma) sign.Close) g.value (drop (at + 3) xs) (drop g.next xs) (v ∷ u ∷ drop (g.next + 2) xs) back h.spelled) r.is t.is);
           only = λ b ws i f.
               let k = parts b ws i in
               let o = h.only k.values k.ms (values_of b ws i) tt in

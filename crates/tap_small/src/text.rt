@@ -2,7 +2,6 @@
 
 ghost use Rattle.std.specs.Prelude.{◌≡◌, ◌≤◌, length, IfOk, IfErr};
 ghost use Rattle.tap_base.specs.SmallText.{IsOutside, NamesAreWords, OneSystem, SmallText};
-ghost use Rattle.tap_base.specs.Spans.{AreTexts};
 ghost use Rattle.tap_base.specs.Tokens.{SpellsTokens};
 ghost use Rattle.tap_small.specs.Named.{IsNamed, IsNameless};
 
@@ -52,7 +51,6 @@ pub fn read_small(alloc: Global, text: &[u8]) -> Result<System, SmallFault>
 /// The system of the small language that the tokens of a text name.
 fn read_tokens(alloc: Global, text: &[u8], tokens: &[Token]) -> Result<System, SmallFault>
     requires sized { length text.now ≤ 1048576 }
-    requires texts { AreTexts text.now tokens.now }
     requires lexed { SpellsTokens text.now tokens.now }
     ensures system { IfOk result (λ system. SmallText text.now system) }
     ensures outside { IfErr result (λ fault. fault ≡ SmallFault.Outside → IsOutside text.now) }

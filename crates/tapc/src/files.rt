@@ -1,6 +1,6 @@
 //! The files of the machine.
 
-ghost use Rattle.std.specs.Prelude.{None};
+ghost use Rattle.std.specs.Prelude.{◌≡◌, None};
 
 use std::fs::File;
 use std::io::Read;
@@ -16,7 +16,10 @@ pub struct Files {
 }
 
 impl Files {
-    pub fn new(rt: HostRuntime) -> Files {
+    /// No file begun, and no fault.
+    pub fn new(rt: HostRuntime) -> Files
+        ensures { result ≡ record { rt = rt; file = None; faults = 0 } }
+    {
         Files {
             rt,
             file: None,

@@ -1,53 +1,24 @@
 //! The program: files, standard output, and the words after its name.
 #![tactic(auto)]
 
+ghost use Rattle.std.specs.Prelude.{◌≡◌, ◌⊎◌};
+ghost use Rattle.tapc_core.specs.Outside.{Rose};
+
 mod files;
 mod output;
+mod words;
 
 use files::Files;
 use output::Output;
-use std::alloc::Global;
 use std::process::ExitCode;
-use std::{env, io};
-use tap_base::{List, NoMemory, Text};
 use tapc_core::{Sink, Status, run};
+use words::{WordsFault, words};
 
-/// Why there are no words.
-enum WordsFault {
-    /// A word is no text.
-    NotText,
-    NoMemory,
-}
-
-impl From<NoMemory> for WordsFault {
-    fn from(_e: NoMemory) -> WordsFault {
-        WordsFault::NoMemory
-    }
-}
-
-impl From<io::Error> for WordsFault {
-    fn from(e: io::Error) -> WordsFault {
-        if e.kind() == io::ErrorKind::OutOfMemory {
-            WordsFault::NoMemory
-        } else {
-            WordsFault::NotText
-        }
-    }
-}
-
-/// The words after the program's name.
-fn words(rt: &HostRuntime, alloc: Global) -> Result<List<Text>, WordsFault> {
-    let mut all = List::new(alloc);
-    let mut args = env::args(rt)?;
-    let _name = args.next();
-    for word in args {
-        all.push(Text::from_string(word))?;
-    }
-    Ok(all)
-}
-
-/// Puts the line that stands in place of a run, and answers the status that it is the line of.
-fn tell(out: &mut Output, line: &[u8], status: Status) -> Status {
+/// Puts the line that stands in place of a run, and answers the status that it is the line of; where it is not put,
+/// `WriteFault`.
+fn tell(out: &mut Output, line: &[u8], status: Status) -> Status
+    ensures { ((result ≡ status) × (out.new.faults ≡ out.old.faults)) ⊎ ((result ≡ Status.WriteFault) × Rose out.old.faults out.new.faults) }
+{
     match out.put(line) {
         Ok(()) => status,
         Err(_) => Status::WriteFault,

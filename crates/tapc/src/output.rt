@@ -1,6 +1,6 @@
 //! Standard output.
 
-ghost use Rattle.std.specs.Prelude.{None};
+ghost use Rattle.std.specs.Prelude.{◌≡◌, None};
 
 use std::io::Write;
 use tapc_core::{Failed, Sink};
@@ -13,7 +13,10 @@ pub struct Output {
 }
 
 impl Output {
-    pub fn new(rt: HostRuntime) -> Output {
+    /// No fault.
+    pub fn new(rt: HostRuntime) -> Output
+        ensures { result ≡ record { rt = rt; faults = 0 } }
+    {
         Output { rt, faults: 0 }
     }
 }

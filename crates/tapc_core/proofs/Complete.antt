@@ -4,8 +4,8 @@ use Rattle.tap_base.specs.declared.ast.Ast.{Ast}
 use Rattle.tapc_core.specs.Offences.{Accepted, IsMisspelling, IsReadAs, Offends}
 use Rattle.tapc_core.specs.Output.{AreValid, Contents, HasOffence, HasSinkCause, HasStoreCause, HasSystem, HasTree, IsAnswer, IsBadTrace, IsRefusal, IsSure, IsValid, Output, Writes, files_named, offence_of, text_of}
 use Rattle.tapc_core.specs.Run.{Files}
-use Rattle.tapc_core.specs.ScheduleText.{GoesOnAfter}
-use Rattle.tapc_core.specs.TraceText.{process_names}
+use Rattle.run_text.specs.ScheduleText.{GoesOnAfter}
+use Rattle.run_text.specs.TraceText.{process_names}
 use Rattle.tapc_core.specs.Words.{Asked, check, print, world}
 use Rattle.tap_base.specs.declared.system.System.{System}
 use Rattle.tapc_core.specs.declared.offence.Offence.{Offence}
@@ -14,7 +14,7 @@ use Rattle.tapc_core.specs.declared.status.Status.{Status}
 use Rattle.tapc_core.specs.declared.status.Status.TheVariants.{Done, Refused, Usage, BadSchedule, ReadFault, WriteFault, LinkFault, NoMemory, NotARun, WorldFull}
 use Rattle.tapc_core.proofs.Named.{named}
 use Rattle.tapc_core.proofs.OneOffence.{never_refused}
-use Rattle.tapc_core.proofs.ScheduleBoth.{never_both}
+use Rattle.run_text.proofs.ScheduleBoth.{never_both}
 use Rattle.tap_small.proofs.Outsides.{one_small}
 
 told : {A : Type 0} (o : Option A) (x : A) (P : A → Type 0) → o ≡ Some x → IfSome o P → P x

@@ -1,4 +1,3 @@
-pub mod SentLines
 pub mod EntriesHeld
 pub mod FrontRead
 pub mod FrontGiven
@@ -6,13 +5,9 @@ pub mod Outputs
 pub mod Steps
 pub mod Turns
 pub mod Unread
-pub mod Decimals
-pub mod LineLabels
-pub mod LineWords
-pub mod OneTrace
-pub mod ScheduleLines
-pub mod ScheduleBoth
 pub mod Complete
+pub mod Found
+pub mod InMemory
 pub mod Named
 pub mod OneOffence
 pub mod TreesRead

@@ -4,9 +4,9 @@ use Rattle.tap_base.specs.declared.system.System.{System}
 use Rattle.tap_base.specs.declared.system.Process.{Process}
 use Rattle.tap_base.specs.Lists.{Each, AreDistinct}
 use Rattle.tap_base.specs.SmallText.{IsWord, SmallText}
-use Rattle.tapc_core.specs.Names.{AreNames}
+use Rattle.run_text.specs.Names.{AreNames}
 use Rattle.tapc_core.specs.Offences.{TextReads}
-use Rattle.tapc_core.specs.TraceText.{process_names}
+use Rattle.run_text.specs.TraceText.{process_names}
 use Rattle.tapc_core.specs.declared.texts.TextFault.{TextFault}
 use Rattle.tap_small.proofs.NameWords.{names_are_words}
 

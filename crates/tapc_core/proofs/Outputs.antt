@@ -9,9 +9,9 @@ use Rattle.tapc_core.specs.Closing.{Closes, ClosesOr, failed, put}
 use Rattle.tapc_core.specs.Offences.{refused_line}
 use Rattle.tapc_core.specs.Output.{GivesUp, IsBadTrace, IsFrontOfTrace, IsPlayed, IsTrace, IsUnfinished, IsWritten, OfWorld, Writes, bad_line, no_memory_line, read_fault_line}
 use Rattle.tapc_core.specs.Run.{AreOf, Files, Played, opening}
-use Rattle.tapc_core.specs.ScheduleText.{BeginsBadly, BeginsSchedule, GoesOnAfter, SpellsSchedule, events_text, most_events}
+use Rattle.run_text.specs.ScheduleText.{BeginsBadly, BeginsSchedule, GoesOnAfter, SpellsSchedule, events_text, most_events}
 use Rattle.tapc_core.specs.Serving.{Broken, Passed, Progress}
-use Rattle.tapc_core.specs.TraceText.{end_line, label_lines, process_names, trace_text, var_lines}
+use Rattle.run_text.specs.TraceText.{end_line, label_lines, process_names, trace_text, var_lines}
 use Rattle.abstract_run.specs.Answers.{Answers}
 use Rattle.abstract_run.specs.Meaning.{Meaning, meaning_of}
 use Rattle.abstract_run.specs.Run.{state_after}

@@ -15,10 +15,10 @@ use Rattle.abstract_run.specs.declared.label.Event.{Event}
 use Rattle.abstract_run.specs.declared.label.Label.{Label}
 use Rattle.abstract_run.specs.declared.state.State.{State}
 use Rattle.tapc_core.specs.Run.{opening}
-use Rattle.tapc_core.specs.ScheduleText.{AreListed, IsFirstLine, IsListed, SpellsEvent, event_line, events_text, most_events}
+use Rattle.run_text.specs.ScheduleText.{AreListed, IsFirstLine, IsListed, SpellsEvent, event_line, events_text, most_events}
 use Rattle.tapc_core.specs.Serving.{Passed, Progress, Served}
-use Rattle.tapc_core.specs.TraceText.{label_lines, lines_text, process_names, step_lines}
-use Rattle.tapc_core.proofs.SentLines.{bound_to}
+use Rattle.run_text.specs.TraceText.{label_lines, lines_text, process_names, step_lines}
+use Rattle.run_text.proofs.SentLines.{bound_to}
 
 -- ---- bytes
 

@@ -21,8 +21,9 @@ use Rattle.abstract_run.specs.declared.state.Channel.{Channel}
 use Rattle.abstract_run.specs.declared.state.Outgoing.{Outgoing}
 use Rattle.abstract_run.specs.declared.state.State.{State}
 use Rattle.abstract_run.proofs.Progress.{can_turn}
-use Rattle.tapc_core.specs.Serving.{Did, DidOrVoid, IsNext, IsNextOf, IsSteady, Served, Wrote, act, idle as stays_idle}
-use Rattle.tapc_core.specs.TraceText.{label_line, label_lines, process_names, sent_lines, step_lines, went_out}
+use Rattle.run_text.specs.Writing.{Wrote}
+use Rattle.tapc_core.specs.Serving.{Did, DidOrVoid, IsNext, IsNextOf, IsSteady, Served, act, idle as stays_idle}
+use Rattle.run_text.specs.TraceText.{label_line, label_lines, process_names, sent_lines, step_lines, went_out}
 
 -- ---- calm states
 

@@ -1,5 +1,5 @@
 -- Why there is nothing to work on.
-use Rattle.std.specs.Prelude.{ℕ, ◌≡◌, ◌≤◌, Result, Ok, Err}
+use Rattle.std.specs.Prelude.{ℕ, ◌≡◌, ◌≤◌, ⊤, Result, Ok, Err}
 use Rattle.tap_expr.specs.declared.fault.ParseFault.{ParseFault}
 use Rattle.tap_expr.specs.declared.fault.ParseFault.TheVariants as parse
 use Rattle.tapc_core.specs.Outside.{Rose}
@@ -25,6 +25,13 @@ misspelled parse.NoMemory = text.NoMemory
 abbrev pub unaccepted : TextFault → FileFault
 unaccepted (text.Refused offence) = Refused offence
 unaccepted text.NoMemory = NoMemory
+
+-- a text was read, whatever came of it
+abbrev pub WasRead : {T : Type 0} → Result T FileFault → Type 0
+WasRead (Ok x) = ⊤
+WasRead (Err (Refused offence)) = ⊤
+WasRead (Err ReadFault) = ⊥
+WasRead (Err NoMemory) = ⊥
 
 -- the count of the store rose where a call of it failed, and is as before with every other answer
 abbrev pub HasFileCause : {T : Type 0} → ℕ → ℕ → Result T FileFault → Type 0

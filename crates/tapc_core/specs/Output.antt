@@ -8,10 +8,11 @@ use Rattle.tap_base.specs.declared.system.System.{System}
 use Rattle.abstract_run.specs.declared.label.Event.{Event}
 use Rattle.tapc_core.specs.Closing.{Closes, ClosesOr}
 use Rattle.tapc_core.specs.Offences.{Accepted, IsMisspelling, IsReadAs, Offends, refused_line}
-use Rattle.tapc_core.specs.Outside.{Rose}
+use Rattle.tap_base.specs.Lists.{Each}
+use Rattle.tapc_core.specs.Outside.{IsTold, Rose}
 use Rattle.tapc_core.specs.Run.{Files, IsOfSchedule, Played, lines_of, opening}
-use Rattle.tapc_core.specs.ScheduleText.{BeginsSchedule, GoesOnAfter, SpellsSchedule}
-use Rattle.tapc_core.specs.TraceText.{process_names, trace_text}
+use Rattle.run_text.specs.ScheduleText.{BeginsSchedule, GoesOnAfter, SpellsSchedule}
+use Rattle.run_text.specs.TraceText.{process_names, trace_text}
 use Rattle.tapc_core.specs.Words.{Asked, check, print, world, usage_line}
 use Rattle.tapc_core.specs.declared.files.FileFault.{FileFault}
 use Rattle.tapc_core.specs.declared.files.FileFault.TheVariants as fault
@@ -205,6 +206,23 @@ IsAnswer None status = (status ≡ Usage) ⊎ (status ≡ WriteFault)
 IsAnswer (Some (check system)) status = IsOfText status
 IsAnswer (Some (print system)) status = IsOfText status
 IsAnswer (Some (world system schedule)) status = IsOfWorld status
+
+-- ---- files
+
+-- the files that were read whole where a command ends with a status
+abbrev pub files_read : Option Asked → Status → List (List ℕ)
+files_read (Some (check system)) Done = system ∷ []
+files_read (Some (check system)) Refused = system ∷ []
+files_read (Some (print system)) Done = system ∷ []
+files_read (Some (print system)) Refused = system ∷ []
+files_read (Some (world system schedule)) Done = system ∷ schedule ∷ []
+files_read (Some (world system schedule)) BadSchedule = system ∷ schedule ∷ []
+files_read (Some (world system schedule)) Refused = system ∷ []
+files_read _ _ = []
+
+-- Each file that was read is there: what it holds is told.
+abbrev pub AreFound : Option Asked → Contents → Status → Type 0
+AreFound asked contents status = Each (λ name. IsTold (contents name)) (files_read asked status)
 
 -- ---- what is answered without fail
 

@@ -11,7 +11,7 @@ use Rattle.abstract_run.specs.declared.label.Event.{Event}
 use Rattle.abstract_run.specs.declared.label.Label.{Label}
 use Rattle.abstract_run.specs.declared.state.State.{State}
 use Rattle.tapc_core.specs.Offences.{Accepted}
-use Rattle.tapc_core.specs.TraceText.{label_lines, process_names}
+use Rattle.run_text.specs.TraceText.{label_lines, process_names}
 
 -- no inputs: an empty list for each process
 abbrev pub no_inputs : System → Inputs

@@ -17,8 +17,9 @@ use Rattle.abstract_run.specs.declared.state.Outgoing.{Outgoing}
 use Rattle.abstract_run.specs.declared.state.State.{State}
 use Rattle.tapc_core.specs.Outside.{Rose}
 use Rattle.tapc_core.specs.Run.{IsRunOf, opening}
-use Rattle.tapc_core.specs.ScheduleText.{AreListed, BeginsBadly, events_text, most_events}
-use Rattle.tapc_core.specs.TraceText.{label_lines, process_names, step_lines}
+use Rattle.run_text.specs.ScheduleText.{AreListed, BeginsBadly, events_text, most_events}
+use Rattle.run_text.specs.TraceText.{label_lines, process_names, step_lines}
+use Rattle.run_text.specs.Writing.{Wrote}
 use Rattle.tapc_core.specs.declared.lines.Stop.{Stop}
 use Rattle.tapc_core.specs.declared.lines.Stop.TheVariants as stop
 
@@ -26,12 +27,6 @@ use Rattle.tapc_core.specs.declared.lines.Stop.TheVariants as stop
 pub record IsSteady (system : System) (s : State) : Type 0 where
   pub fits : Fits (meaning_of system) s
   pub calm : IsCalm s
-
--- The lines were written behind a text.
-pub record Wrote (expected : Option (List ℕ)) (before after : List ℕ) : Type 0 where
-  pub lines : List ℕ
-  pub shown : expected ≡ Some lines
-  pub told : after ≡ before ++ lines
 
 -- One label was done, and its lines were written behind a text.
 pub record Did (system : System) (l : Label) (old new : State) (before after : List ℕ) : Type 0 where

@@ -1,6 +1,6 @@
 use super::check_rows::verdicts;
 use super::run_rows::COUNTER;
-use super::run_tests::{sink_of, store_of, words_of};
+use super::run_tests::{ran, sink_of, store_of, words_of};
 use super::*;
 use std::test::Fail;
 
@@ -10,7 +10,7 @@ fn a_text_is_checked(rt: HostRuntime) -> Result<(), Fail> {
     for (text, status, line) in verdicts() {
         let mut store = store_of(rt.alloc(), text, b"")?;
         let mut out = sink_of(rt.alloc())?;
-        let answer = run(rt.alloc(), words.as_slice(), &mut store, &mut out);
+        let answer = ran(rt.alloc(), words.as_slice(), &mut store, &mut out);
         assert_eq!(rt; answer, status);
         assert_eq!(rt; out.written(), line);
     }
@@ -23,7 +23,7 @@ fn the_world_refuses_the_same(rt: HostRuntime) -> Result<(), Fail> {
     for (text, status, line) in verdicts() {
         let mut store = store_of(rt.alloc(), text, b"")?;
         let mut out = sink_of(rt.alloc())?;
-        let answer = run(rt.alloc(), words.as_slice(), &mut store, &mut out);
+        let answer = ran(rt.alloc(), words.as_slice(), &mut store, &mut out);
         assert_eq!(rt; answer, status);
         assert_eq!(rt; answer == Status::Refused, out.written() == line);
     }
@@ -41,7 +41,7 @@ fn a_text_that_is_too_long_is_refused(rt: HostRuntime) -> Result<(), Fail> {
             let words = words_of(rt.alloc(), command)?;
             let mut store = store_of(rt.alloc(), text, b"")?;
             let mut out = sink_of(rt.alloc())?;
-            let answer = run(rt.alloc(), words.as_slice(), &mut store, &mut out);
+            let answer = ran(rt.alloc(), words.as_slice(), &mut store, &mut out);
             assert_eq!(rt; answer, Status::Refused);
             assert_eq!(rt; out.written(), line);
         }
@@ -65,7 +65,7 @@ fn each_call_of_check_may_fail(rt: HostRuntime) -> Result<(), Fail> {
             let mut store = store_of(rt.alloc(), text, b"")?;
             store.fail(call)?;
             let mut out = sink_of(rt.alloc())?;
-            let answer = run(rt.alloc(), words.as_slice(), &mut store, &mut out);
+            let answer = ran(rt.alloc(), words.as_slice(), &mut store, &mut out);
             let failed = call < 4;
             assert_eq!(rt; answer, if failed { Status::ReadFault } else { status });
             assert_eq!(rt;
@@ -81,7 +81,7 @@ fn each_call_of_check_may_fail(rt: HostRuntime) -> Result<(), Fail> {
             let mut store = store_of(rt.alloc(), text, b"")?;
             let mut out = sink_of(rt.alloc())?;
             out.fail(call)?;
-            let answer = run(rt.alloc(), words.as_slice(), &mut store, &mut out);
+            let answer = ran(rt.alloc(), words.as_slice(), &mut store, &mut out);
             let failed = call < 3;
             assert_eq!(rt; answer, if failed { Status::WriteFault } else { status });
             assert_eq!(rt; out.written(), if failed { b"".as_slice() } else { line });
@@ -95,7 +95,7 @@ fn a_text_that_is_not_there_is_a_read_fault(rt: HostRuntime) -> Result<(), Fail>
     let mut store = store_of(rt.alloc(), COUNTER, b"")?;
     let words = words_of(rt.alloc(), &["check", "u"])?;
     let mut out = sink_of(rt.alloc())?;
-    let answer = run(rt.alloc(), words.as_slice(), &mut store, &mut out);
+    let answer = ran(rt.alloc(), words.as_slice(), &mut store, &mut out);
     assert_eq!(rt; answer, Status::ReadFault);
     assert_eq!(rt; out.written(), b"read fault\n".as_slice());
     Ok(())

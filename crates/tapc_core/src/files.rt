@@ -1,13 +1,14 @@
 //! The files that a command works on, read.
 
-ghost use Rattle.std.specs.Prelude.{◌≡◌, ℕ, List, Err, IfOk, IfSome};
+ghost use Rattle.std.specs.Prelude.{◌≡◌, ℕ, List, Err, IfOk, IfSome, OnOk};
 ghost use Rattle.tap_base.specs.Small.{IsSmall};
-ghost use Rattle.tapc_core.specs.FileFaults.{HasFileCause};
-ghost use Rattle.tapc_core.specs.Names.{AreNames};
+ghost use Rattle.tapc_core.specs.FileFaults.{HasFileCause, WasRead};
+ghost use Rattle.run_text.specs.Names.{AreNames};
 ghost use Rattle.tapc_core.specs.Offences.{Accepted, IsMisspelling, IsReadAs, Offends};
+ghost use Rattle.tapc_core.specs.Outside.{IsTold};
 ghost use Rattle.tapc_core.specs.Output.{files_named};
 ghost use Rattle.tapc_core.specs.Run.{AreOf};
-ghost use Rattle.tapc_core.specs.TraceText.{process_names};
+ghost use Rattle.run_text.specs.TraceText.{process_names};
 
 use crate::offence::Offence;
 use crate::outside::Store;
@@ -73,6 +74,8 @@ pub fn read_files<S: Store>(
     ensures named { IfOk result (λ r. AreNames (process_names r.0)) }
     ensures read { IfOk result (λ r. AreOf r.0 r.1 (files_named system.now schedule.now (S.contents store.old))) }
     ensures refused { (o : Offence) → result ≡ Err (FileFault.Refused o) → IfSome (S.contents store.old system.now) (λ text. Offends text o) }
+    ensures found { WasRead result → IsTold (S.left store.old) → IsTold (S.contents store.old system.now) }
+    ensures found_schedule { OnOk result (IsTold (S.left store.old) → IsTold (S.contents store.old schedule.now)) }
     ensures cause { HasFileCause (S.faults store.old) (S.faults store.new) result }
 {
     let system = read_system(alloc, system, store)?;
@@ -90,6 +93,8 @@ pub fn read_system<S: Store>(alloc: Global, name: &str, store: &mut S) -> Result
     ensures named { IfOk result (λ s. AreNames (process_names s)) }
     ensures accepted { IfOk result (λ s. IfSome (S.contents store.old name.now) (λ text. Accepted text s)) }
     ensures refused { (o : Offence) → result ≡ Err (FileFault.Refused o) → IfSome (S.contents store.old name.now) (λ text. Offends text o) }
+    ensures found { WasRead result → IsTold (S.left store.old) → IsTold (S.contents store.old name.now) }
+    ensures told { OnOk result (IsTold (S.left store.old) → IsTold (S.left store.new)) }
     ensures stays { (n : List ℕ) → S.contents store.new n ≡ S.contents store.old n }
     ensures cause { HasFileCause (S.faults store.old) (S.faults store.new) result }
 {
@@ -104,6 +109,7 @@ pub fn read_system<S: Store>(alloc: Global, name: &str, store: &mut S) -> Result
 pub fn read_tree<S: Store>(alloc: Global, name: &str, store: &mut S) -> Result<Ast, FileFault>
     ensures read { IfOk result (λ tree. IfSome (S.contents store.old name.now) (λ text. IsReadAs text tree)) }
     ensures refused { (o : Offence) → result ≡ Err (FileFault.Refused o) → IfSome (S.contents store.old name.now) (λ text. IsMisspelling text o) }
+    ensures found { WasRead result → IsTold (S.left store.old) → IsTold (S.contents store.old name.now) }
     ensures cause { HasFileCause (S.faults store.old) (S.faults store.new) result }
 {
     match read_text(alloc, store, name)? {

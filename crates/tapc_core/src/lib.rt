@@ -7,13 +7,13 @@ mod check_rows;
 #[cfg(test)]
 mod check_tests;
 mod closing;
-mod datagrams;
 mod files;
 mod laws;
+#[cfg(test)]
+mod line_tests;
 mod lines;
 mod memory_sink;
 mod memory_store;
-mod number;
 mod offence;
 mod outside;
 #[cfg(test)]
@@ -27,20 +27,14 @@ mod reading;
 mod run_rows;
 #[cfg(test)]
 mod run_tests;
-mod schedule;
-mod splits;
 mod status;
 #[cfg(test)]
 mod tests;
-mod text;
 mod texts;
-mod vars;
 mod words;
 mod world;
 
-pub use laws::{
-    never_both, never_refused, one_line, one_offence, one_trace, one_tree_of_text, printed_again,
-};
+pub use laws::{never_refused, one_offence, one_tree_of_text, printed_again};
 pub use memory_sink::MemorySink;
 pub use memory_store::MemoryStore;
 pub use offence::Offence;

@@ -5,15 +5,15 @@ ghost use Rattle.tap_base.specs.Small.{IsSmall};
 ghost use Rattle.abstract_run.specs.Calm.{cells_in};
 ghost use Rattle.tapc_core.specs.Outside.{HasCause};
 ghost use Rattle.tapc_core.specs.Run.{opening};
-ghost use Rattle.tapc_core.specs.Names.{AreNames};
-ghost use Rattle.tapc_core.specs.ScheduleText.{IsOfNoEvent, SpellsEvent, most_events};
+ghost use Rattle.run_text.specs.Names.{AreNames};
+ghost use Rattle.run_text.specs.ScheduleText.{IsOfNoEvent, SpellsEvent, most_events};
 ghost use Rattle.tapc_core.specs.Serving.{HasPlayCause, IsSteady, Moves, Plays};
-ghost use Rattle.tapc_core.specs.TraceText.{process_names};
+ghost use Rattle.run_text.specs.TraceText.{process_names};
 
 use crate::outside::{Failed, Sink};
-use crate::schedule::{first_line, read_event};
 use crate::world::World;
 use abstract_run::Event;
+use run_text::{first_line, read_event};
 use std::alloc::Global;
 use tap_base::{NoMemory, System};
 

@@ -6,7 +6,7 @@ ghost use Rattle.std.specs.Str.{bytes_eq};
 ghost use Rattle.tapc_core.specs.Calls.{with_listed, no_calls};
 ghost use Rattle.tapc_core.specs.Entries.{Finds, contents_at, contents_of};
 ghost use Rattle.tapc_core.specs.MemoryStore.{Begins, Reads};
-ghost use Rattle.tapc_core.specs.Outside.{Gives, HasCause, ReadGives};
+ghost use Rattle.tapc_core.specs.Outside.{Gives, HasCause, IsTold, ReadGives};
 
 use crate::calls::Calls;
 use crate::outside::{Failed, Store};
@@ -101,6 +101,7 @@ impl Store for MemoryStore {
     fn begin(&mut self, name: &str) -> Result<(), Failed>
         ensures begins { Begins self.old name.now result self.new }
         ensures begun { OnOk result (Some self.new.left ≡ contents_of self.old.entries name.now) }
+        ensures told { OnOk result (IsTold (Some self.old.left) → IsTold (Some self.new.left)) }
         ensures kept { OnErr result (Some self.new.left ≡ Some self.old.left) }
         ensures stays { (n : List ℕ) → contents_of self.new.entries n ≡ contents_of self.old.entries n }
         ensures cause { HasCause self.old.calls.faults self.new.calls.faults result }

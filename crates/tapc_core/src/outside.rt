@@ -2,7 +2,7 @@
 
 ghost use Rattle.std.specs.Prelude.{◌≡◌, ℕ, List, Option, OnOk, OnErr};
 ghost use Rattle.std.specs.Io.{ReadsAtMost};
-ghost use Rattle.tapc_core.specs.Outside.{HasCause, ReadGives, PutAppends};
+ghost use Rattle.tapc_core.specs.Outside.{HasCause, IsTold, ReadGives, PutAppends};
 
 /// A call of the outside failed.
 #[derive(Clone, Copy, Debug, PartialEq, Eq)]
@@ -11,7 +11,8 @@ pub struct Failed;
 /// Named contents that are read from the front.
 ///
 /// Each `Failed` comes only where the count of faults rose in that call, and every other answer leaves
-/// the count as it was. Contents are told or not: a store on files tells none.
+/// the count as it was. Contents are told or not: a store on files tells none. A store that tells what is left tells
+/// what it begins, so there a name that it has no contents for is never begun.
 pub trait Store {
     /// The contents of a name, where told.
     ghost contents: { Self → List ℕ → Option (List ℕ) };
@@ -25,6 +26,7 @@ pub trait Store {
     /// Begins the contents of a name: they are what is left.
     fn begin(&mut self, name: &str) -> Result<(), Failed>
         ensures begun { OnOk result (left self.new ≡ contents self.old name.now) }
+        ensures told { OnOk result (IsTold (left self.old) → IsTold (left self.new)) }
         ensures kept { OnErr result (left self.new ≡ left self.old) }
         ensures stays { (n : List ℕ) → contents self.new n ≡ contents self.old n }
         ensures cause { HasCause (faults self.old) (faults self.new) result };

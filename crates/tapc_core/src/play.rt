@@ -7,8 +7,8 @@ ghost use Rattle.tapc_core.specs.Output.{HasSinkCause, IsPlayed, OfWorld, Writes
 ghost use Rattle.tapc_core.specs.Run.{AreOf, Files, opening};
 ghost use Rattle.tapc_core.specs.Serving.{IsSteady};
 ghost use Rattle.tapc_core.specs.Closing.{ClosesOr};
-ghost use Rattle.tapc_core.specs.Names.{AreNames};
-ghost use Rattle.tapc_core.specs.TraceText.{end_line, process_names, var_lines};
+ghost use Rattle.run_text.specs.Names.{AreNames};
+ghost use Rattle.run_text.specs.TraceText.{end_line, process_names, var_lines};
 
 use crate::closing::close;
 use crate::lines::{Stop, play_lines};

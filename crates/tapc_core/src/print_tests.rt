@@ -1,5 +1,5 @@
 use super::check_rows::{ALTERNATING_BIT, TRI, verdicts};
-use super::run_tests::{sink_of, store_of, words_of};
+use super::run_tests::{ran, sink_of, store_of, words_of};
 use super::*;
 use std::test::Fail;
 
@@ -53,7 +53,7 @@ fn a_text_is_printed(rt: HostRuntime) -> Result<(), Fail> {
     ] {
         let mut store = store_of(rt.alloc(), text, b"")?;
         let mut out = sink_of(rt.alloc())?;
-        let answer = run(rt.alloc(), words.as_slice(), &mut store, &mut out);
+        let answer = ran(rt.alloc(), words.as_slice(), &mut store, &mut out);
         assert_eq!(rt; answer, Status::Done);
         assert_eq!(rt; out.written(), printed);
     }
@@ -67,7 +67,7 @@ fn a_text_that_is_no_tree_is_not_printed(rt: HostRuntime) -> Result<(), Fail> {
     for (text, status, line) in verdicts() {
         let mut store = store_of(rt.alloc(), text, b"")?;
         let mut out = sink_of(rt.alloc())?;
-        let answer = run(rt.alloc(), words.as_slice(), &mut store, &mut out);
+        let answer = ran(rt.alloc(), words.as_slice(), &mut store, &mut out);
         if status == Status::Done || line == b"refused S0 1:1\n".as_slice() {
             assert_eq!(rt; answer, Status::Done);
         } else {
@@ -95,7 +95,7 @@ fn each_call_of_print_may_fail(rt: HostRuntime) -> Result<(), Fail> {
         store.fail(store_call)?;
         let mut out = sink_of(rt.alloc())?;
         out.fail(sink_call)?;
-        let answer = run(rt.alloc(), words.as_slice(), &mut store, &mut out);
+        let answer = ran(rt.alloc(), words.as_slice(), &mut store, &mut out);
         assert_eq!(rt; answer, status);
         assert_eq!(rt; out.written(), written);
     }

@@ -2,6 +2,7 @@
 
 ghost use Rattle.std.specs.Prelude.{◌≡◌, ◌⊎◌, ℕ, List, None, Some};
 ghost use Rattle.tapc_core.specs.Output as spec;
+ghost use Rattle.tapc_core.specs.Outside.{IsTold};
 ghost use Rattle.tapc_core.specs.Words as asked;
 
 use crate::closing::close;
@@ -36,6 +37,8 @@ pub fn run<S: Store, O: Sink>(alloc: Global, words: &[Text], store: &mut S, out:
     ensures write_fault { result ≡ Status.WriteFault → spec.Puts (spec.IsPartOf (spec.Output (asked.command_of words.now) (S.contents store.old))) (O.written out.old) (O.written out.new) }
     // Of world nothing, or the lines of a run on some first lines of the schedule, and then that memory was refused; of check and print that alone.
     ensures no_memory { result ≡ Status.NoMemory → spec.Puts (spec.Output (asked.command_of words.now) (S.contents store.old) Status.NoMemory) (O.written out.old) (O.written out.new) }
+    // Of a store that tells, a file that is not there is never read.
+    ensures found { IsTold (S.left store.old) → spec.AreFound (asked.command_of words.now) (S.contents store.old) result }
     ensures store_cause { spec.HasStoreCause result (S.faults store.old) (S.faults store.new) }
     ensures sink_cause { spec.HasSinkCause result (O.faults out.old) (O.faults out.new) }
     // On a text that is accepted, or for print is read as a tree, and for world a schedule of events, all the work is done.
@@ -50,6 +53,7 @@ pub fn run<S: Store, O: Sink>(alloc: Global, words: &[Text], store: &mut S, out:
 fn obey<S: Store, O: Sink>(alloc: Global, words: &[Text], store: &mut S, out: &mut O) -> Status
     ensures writes { spec.Writes (spec.Output (asked.command_of words.now) (S.contents store.old)) result (O.written out.old) (O.written out.new) }
     ensures answer { spec.IsAnswer (asked.command_of words.now) result }
+    ensures found { IsTold (S.left store.old) → spec.AreFound (asked.command_of words.now) (S.contents store.old) result }
     ensures store_cause { spec.HasStoreCause result (S.faults store.old) (S.faults store.new) }
     ensures sink_cause { spec.HasSinkCause result (O.faults out.old) (O.faults out.new) }
 {
@@ -65,6 +69,7 @@ fn obey<S: Store, O: Sink>(alloc: Global, words: &[Text], store: &mut S, out: &m
 fn check<S: Store, O: Sink>(alloc: Global, system: &str, store: &mut S, out: &mut O) -> Status
     ensures writes { spec.Writes (spec.OfCheck (S.contents store.old system.now)) result (O.written out.old) (O.written out.new) }
     ensures answer { spec.IsOfText result }
+    ensures found { IsTold (S.left store.old) → spec.AreFound (Some (asked.check system.now)) (S.contents store.old) result }
     ensures store_cause { spec.HasStoreCause result (S.faults store.old) (S.faults store.new) }
     ensures sink_cause { spec.HasSinkCause result (O.faults out.old) (O.faults out.new) }
 {
@@ -78,6 +83,7 @@ fn check<S: Store, O: Sink>(alloc: Global, system: &str, store: &mut S, out: &mu
 fn print_tree<S: Store, O: Sink>(alloc: Global, system: &str, store: &mut S, out: &mut O) -> Status
     ensures writes { spec.Writes (spec.OfPrint (S.contents store.old system.now)) result (O.written out.old) (O.written out.new) }
     ensures answer { spec.IsOfText result }
+    ensures found { IsTold (S.left store.old) → spec.AreFound (Some (asked.print system.now)) (S.contents store.old) result }
     ensures store_cause { spec.HasStoreCause result (S.faults store.old) (S.faults store.new) }
     ensures sink_cause { spec.HasSinkCause result (O.faults out.old) (O.faults out.new) }
 {
@@ -100,6 +106,7 @@ fn world<S: Store, O: Sink>(
 ) -> Status
     ensures writes { spec.Writes (spec.OfWorld (spec.files_named system.now schedule.now (S.contents store.old))) result (O.written out.old) (O.written out.new) }
     ensures answer { spec.IsOfWorld result }
+    ensures found { IsTold (S.left store.old) → spec.AreFound (Some (asked.world system.now schedule.now)) (S.contents store.old) result }
     ensures store_cause { spec.HasStoreCause result (S.faults store.old) (S.faults store.new) }
     ensures sink_cause { spec.HasSinkCause result (O.faults out.old) (O.faults out.new) }
 {

@@ -1,6 +1,7 @@
 //! The contents of a name, read in one go.
 
-ghost use Rattle.std.specs.Prelude.{◌≡◌, ◌≤◌, ◌<◌, ℕ, List, length, IfOk};
+ghost use Rattle.std.specs.Prelude.{◌≡◌, ◌≤◌, ◌<◌, ℕ, List, length, IfOk, OnOk};
+ghost use Rattle.tapc_core.specs.Outside.{IsTold};
 ghost use Rattle.tapc_core.specs.Reading.{HasReadCause, ReadsFront, ReadsText, ReadsWhole};
 
 use crate::outside::{Failed, Store};
@@ -60,6 +61,7 @@ pub fn read_front<S: Store>(
 ) -> Result<List<u8>, ReadError>
     ensures within { IfOk result (λ bytes. length bytes ≤ most) }
     ensures front { IfOk result (λ bytes. ReadsFront (S.contents store.old name.now) most bytes (S.left store.new)) }
+    ensures found { OnOk result (IsTold (S.left store.old) → IsTold (S.contents store.old name.now)) }
     ensures stays { (n : List ℕ) → S.contents store.new n ≡ S.contents store.old n }
     ensures cause { HasReadCause (S.faults store.old) (S.faults store.new) result }
 {
@@ -81,6 +83,7 @@ pub fn read_front<S: Store>(
 /// Reads the contents of a name whole.
 pub fn read_whole<S: Store>(alloc: Global, store: &mut S, name: &str) -> Result<List<u8>, ReadError>
     ensures whole { IfOk result (λ bytes. ReadsWhole (S.contents store.old name.now) bytes (S.left store.new)) }
+    ensures found { OnOk result (IsTold (S.left store.old) → IsTold (S.contents store.old name.now)) }
     ensures stays { (n : List ℕ) → S.contents store.new n ≡ S.contents store.old n }
     ensures cause { HasReadCause (S.faults store.old) (S.faults store.new) result }
 {
@@ -95,6 +98,7 @@ pub fn read_whole<S: Store>(alloc: Global, store: &mut S, name: &str) -> Result<
 /// no further one.
 pub fn read_text<S: Store>(alloc: Global, store: &mut S, name: &str) -> Result<Reading, ReadError>
     ensures text { IfOk result (λ reading. ReadsText (S.contents store.old name.now) reading (S.left store.new)) }
+    ensures found { OnOk result (IsTold (S.left store.old) → IsTold (S.contents store.old name.now)) }
     ensures stays { (n : List ℕ) → S.contents store.new n ≡ S.contents store.old n }
     ensures cause { HasReadCause (S.faults store.old) (S.faults store.new) result }
 {

@@ -1,3 +1,7 @@
+ghost use Rattle.std.specs.Prelude.{◌≡◌, ℕ, List, Some};
+ghost use Rattle.tapc_core.specs.InMemory.{TookTrace};
+ghost use Rattle.tapc_core.specs.Words.{command_of, world};
+
 use super::run_rows::{COUNTER, rows};
 use super::*;
 use std::alloc::Global;
@@ -28,13 +32,32 @@ pub fn sink_of(alloc: Global) -> Result<MemorySink, NoMemory> {
     Ok(out)
 }
 
+/// Runs words over a store and a sink in memory, where nothing is untold: what `run` promises of a trace holds with no
+/// premise.
+fn run_in_memory(
+    alloc: Global,
+    words: &[Text],
+    store: &mut MemoryStore,
+    out: &mut MemorySink,
+) -> Status
+    ensures done { (system schedule : List ℕ) → command_of words.now ≡ Some (world system schedule) → result ≡ Status.Done → TookTrace system schedule store.old out.old out.new }
+{
+    run(alloc, words, store, out)
+}
+
+/// Runs words over a store and a sink in memory. It promises nothing, so that what is to be proved of a test stays
+/// short.
+pub fn ran(alloc: Global, words: &[Text], store: &mut MemoryStore, out: &mut MemorySink) -> Status {
+    run_in_memory(alloc, words, store, out)
+}
+
 #[test]
 fn a_run_writes_its_trace(rt: HostRuntime) -> Result<(), Fail> {
     let words = words_of(rt.alloc(), &["world", "s", "t"])?;
     for (system, schedule, status, lines) in rows() {
         let mut store = store_of(rt.alloc(), system, schedule)?;
         let mut out = sink_of(rt.alloc())?;
-        let answer = run(rt.alloc(), words.as_slice(), &mut store, &mut out);
+        let answer = ran(rt.alloc(), words.as_slice(), &mut store, &mut out);
         assert_eq!(rt; answer, status);
         assert_eq!(rt; out.written(), lines);
     }
@@ -64,7 +87,7 @@ fn other_words_are_no_command(rt: HostRuntime) -> Result<(), Fail> {
     for row in rows {
         let words = words_of(rt.alloc(), row)?;
         let mut out = sink_of(rt.alloc())?;
-        let answer = run(rt.alloc(), words.as_slice(), &mut store, &mut out);
+        let answer = ran(rt.alloc(), words.as_slice(), &mut store, &mut out);
         assert_eq!(rt; answer, Status::Usage);
         assert_eq!(rt;
             out.written(),
@@ -79,7 +102,7 @@ fn a_schedule_that_is_not_there_is_a_read_fault(rt: HostRuntime) -> Result<(), F
     let mut store = store_of(rt.alloc(), COUNTER, b"")?;
     let words = words_of(rt.alloc(), &["world", "s", "u"])?;
     let mut out = sink_of(rt.alloc())?;
-    let answer = run(rt.alloc(), words.as_slice(), &mut store, &mut out);
+    let answer = ran(rt.alloc(), words.as_slice(), &mut store, &mut out);
     assert_eq!(rt; answer, Status::ReadFault);
     assert_eq!(rt; out.written(), b"read fault\n".as_slice());
     Ok(())
@@ -93,7 +116,7 @@ fn each_call_of_the_outside_may_fail(rt: HostRuntime) -> Result<(), Fail> {
         let mut store = store_of(rt.alloc(), COUNTER, b"turn a 0\n")?;
         store.fail(call)?;
         let mut out = sink_of(rt.alloc())?;
-        let answer = run(rt.alloc(), words.as_slice(), &mut store, &mut out);
+        let answer = ran(rt.alloc(), words.as_slice(), &mut store, &mut out);
         assert_eq!(rt; answer, Status::ReadFault, "call {call} of the store");
         assert_eq!(rt; out.written(), b"read fault\n".as_slice());
     }
@@ -101,7 +124,7 @@ fn each_call_of_the_outside_may_fail(rt: HostRuntime) -> Result<(), Fail> {
         let mut store = store_of(rt.alloc(), COUNTER, b"turn a 0\n")?;
         let mut out = sink_of(rt.alloc())?;
         out.fail(call)?;
-        let answer = run(rt.alloc(), words.as_slice(), &mut store, &mut out);
+        let answer = ran(rt.alloc(), words.as_slice(), &mut store, &mut out);
         assert_eq!(rt; answer, Status::WriteFault, "put {call}");
         assert!(rt; lines.starts_with(out.written()));
     }
@@ -109,7 +132,7 @@ fn each_call_of_the_outside_may_fail(rt: HostRuntime) -> Result<(), Fail> {
     let mut out = sink_of(rt.alloc())?;
     store.fail(7)?;
     out.fail(3)?;
-    let answer = run(rt.alloc(), words.as_slice(), &mut store, &mut out);
+    let answer = ran(rt.alloc(), words.as_slice(), &mut store, &mut out);
     assert_eq!(rt; answer, Status::Done);
     assert_eq!(rt; out.written(), lines);
     Ok(())
@@ -123,7 +146,7 @@ fn pieces_do_not_matter(rt: HostRuntime) -> Result<(), Fail> {
         store.add("s", COUNTER)?;
         store.add("t", b"turn a 0\nturn a 1\n")?;
         let mut out = sink_of(rt.alloc())?;
-        let answer = run(rt.alloc(), words.as_slice(), &mut store, &mut out);
+        let answer = ran(rt.alloc(), words.as_slice(), &mut store, &mut out);
         assert_eq!(rt; answer, Status::Done, "pieces of {piece}");
         assert_eq!(rt;
             out.written(),
@@ -141,7 +164,7 @@ fn a_fault_line_that_is_not_put_is_a_write_fault(rt: HostRuntime) -> Result<(), 
         store.fail(call)?;
         let mut out = sink_of(rt.alloc())?;
         out.fail(1)?;
-        let answer = run(rt.alloc(), words.as_slice(), &mut store, &mut out);
+        let answer = ran(rt.alloc(), words.as_slice(), &mut store, &mut out);
         assert_eq!(rt; answer, Status::WriteFault, "call {call} of the store");
         assert_eq!(rt; out.written(), b"".as_slice());
     }

@@ -1,9 +1,9 @@
 //! From the text of a system to its tree and to the system, or to the first offence.
 
 ghost use Rattle.std.specs.Prelude.{◌≤◌, IfOk, length};
-ghost use Rattle.tapc_core.specs.Names.{AreNames};
+ghost use Rattle.run_text.specs.Names.{AreNames};
 ghost use Rattle.tapc_core.specs.Offences.{TextReads, TreeReads};
-ghost use Rattle.tapc_core.specs.TraceText.{process_names};
+ghost use Rattle.run_text.specs.TraceText.{process_names};
 
 use crate::offence::Offence;
 use std::alloc::Global;

@@ -5,13 +5,12 @@ ghost use Rattle.tap_base.specs.Small.{IsSmall};
 ghost use Rattle.abstract_run.specs.Calm.{IsPossible, cells_in};
 ghost use Rattle.abstract_run.specs.Meaning.{meaning_of};
 ghost use Rattle.tapc_core.specs.Run.{no_inputs, opening};
-ghost use Rattle.tapc_core.specs.ScheduleText.{IsListed};
+ghost use Rattle.run_text.specs.ScheduleText.{IsListed};
 ghost use Rattle.tapc_core.specs.Serving.{Did, DidOrVoid, IsNextOf, IsSteady, Served, Tried, action_count};
-ghost use Rattle.tapc_core.specs.TraceText.{end_line, process_names, var_lines};
+ghost use Rattle.run_text.specs.TraceText.{end_line, process_names, var_lines};
 
-use crate::datagrams::write_step;
-use crate::vars::write_all_vars;
 use abstract_run::{Event, Label, State, StepFault, enabled, init, step};
+use run_text::{write_all_vars, write_step};
 use std::alloc::Global;
 use tap_base::{Inputs, List, NoMemory, System};
 

@@ -4,7 +4,7 @@ ghost use Rattle.tap_base.specs.Lexeme.{lexemes};
 ghost use Rattle.tap_base.specs.SmallGrammar.{IsAtom, IsStmt, Separated, SomeSeparated};
 ghost use Rattle.tap_base.specs.Spans.{AreTexts};
 ghost use Rattle.tap_small.specs.Ends.{EndsValues};
-ghost use Rattle.tap_lexer.specs.Reading.{Begins, Closed, Free, Lacks};
+ghost use Rattle.tap_lexer.specs.Reading.{Closed, Free, Lacks, Shows};
 ghost use Rattle.tap_small.specs.Reading.{Answers};
 
 use crate::small::atoms::read_atom;
@@ -15,7 +15,7 @@ use tap_lexer::{Found, Source};
 /// A message with its values, and the process that it goes to.
 pub fn read_send(source: &Source, at: usize) -> Result<Found<AstStmt>, Stop>
     requires texts { AreTexts source.now.text.now source.now.tokens.now }
-    requires send { Begins Sign.Send (lexemes source.now.text.now source.now.tokens.now) at }
+    requires send { Shows Sign.Send (lexemes source.now.text.now source.now.tokens.now) at }
     ensures { Answers IsStmt (Lacks Sign.Dot)
         (lexemes source.now.text.now source.now.tokens.now) at result }
 {

@@ -3,10 +3,26 @@ use Rattle.tap_base.specs.ExprText.{IsUnspelled}
 use Rattle.tap_base.specs.Grammar.{Spells}
 use Rattle.tap_base.specs.Lexeme.{lexemes}
 use Rattle.tap_base.specs.Nodes.{nodes, most_nodes}
-use Rattle.std.proofs.Common.{◌<◌}
+use Rattle.std.proofs.Common.{◌<◌, min, length}
 use Rattle.tap_expr.proofs.ExprEnds.{deep_at, unspelled_at, large_at}
 use Rattle.tap_expr.proofs.ExprPlaced.{are_placed}
+use Rattle.tap_lexer.proofs.Spans.{spelled_texts}
 use Rattle.tap_expr.proofs.whole.parse_expr.Goals as goal
+
+pub first_too_deep-requires : goal.first_too_deep-requires
+first_too_deep-requires c = spelled_texts c.args.text.now _ c.args.tokens.now c.requires.lexed
+
+pub place_at-requires-clause-texts : goal.place_at-requires-clause-texts
+place_at-requires-clause-texts c = spelled_texts c.args.text.now _ c.args.tokens.now c.requires.lexed
+
+pub read_whole-requires : goal.read_whole-requires
+read_whole-requires c = spelled_texts c.args.text.now _ c.args.tokens.now c.requires.lexed
+
+pub place_at-requires-in-Ok-Large-clause-texts : goal.place_at-requires-in-Ok-Large-clause-texts
+place_at-requires-in-Ok-Large-clause-texts c = spelled_texts c.args.text.now _ c.args.tokens.now c.requires.lexed
+
+pub place_at-requires-in-Err-At-clause-texts : goal.place_at-requires-in-Err-At-clause-texts
+place_at-requires-in-Err-At-clause-texts c = spelled_texts c.args.text.now _ c.args.tokens.now c.requires.lexed
 
 pub place_at-requires-clause-placed : goal.place_at-requires-clause-placed
 place_at-requires-clause-placed c = are_placed c.args.text.now c.args.tokens.now c.requires.lexed
@@ -27,5 +43,6 @@ returns-in-Ok-Large c =
 
 pub returns-in-Err-At : goal.returns-in-Err-At
 returns-in-Err-At c =
-    let h : IsUnspelled (lexemes c.args.text.now c.args.tokens.now) c.in-Err-At.at = rw c.in-Err-At.field-0-is at c.in-Err-At.ensures in
+    let xs = lexemes c.args.text.now c.args.tokens.now in
+    let h : IsUnspelled xs (min c.in-Err-At.at (length xs)) = rw c.in-Err-At.field-0-is at c.in-Err-At.ensures in
     unspelled_at c.args.text.now c.args.tokens.now c.in-Err-At.at _ c.place_at-in-Err-At.ensures c.in_default.ensures h

@@ -1,9 +1,25 @@
 use Rattle.tap_base.specs.Lexeme.{lexemes}
 use Rattle.tap_base.specs.Systems.{IsUntold, IsTooLarge, SpellsText, SpellsTo}
-use Rattle.std.proofs.Common.{length}
+use Rattle.std.proofs.Common.{min, length}
 use Rattle.tap_expr.proofs.ExprPlaced.{are_placed}
 use Rattle.tap_parser.proofs.TextEnds.{deep_at, untold_at, large_at}
+use Rattle.tap_lexer.proofs.Spans.{spelled_texts}
 use Rattle.tap_parser.proofs.whole.parse.Goals as goal
+
+pub first_too_deep-requires : goal.first_too_deep-requires
+first_too_deep-requires c = spelled_texts c.args.text.now _ c.args.tokens.now c.requires.lexed
+
+pub place_at-requires-clause-texts : goal.place_at-requires-clause-texts
+place_at-requires-clause-texts c = spelled_texts c.args.text.now _ c.args.tokens.now c.requires.lexed
+
+pub read_whole-requires : goal.read_whole-requires
+read_whole-requires c = spelled_texts c.args.text.now _ c.args.tokens.now c.requires.lexed
+
+pub place_at-requires-in-Ok-Large-clause-texts : goal.place_at-requires-in-Ok-Large-clause-texts
+place_at-requires-in-Ok-Large-clause-texts c = spelled_texts c.args.text.now _ c.args.tokens.now c.requires.lexed
+
+pub place_at-requires-in-Err-At-clause-texts : goal.place_at-requires-in-Err-At-clause-texts
+place_at-requires-in-Err-At-clause-texts c = spelled_texts c.args.text.now _ c.args.tokens.now c.requires.lexed
 
 pub place_at-requires-clause-placed : goal.place_at-requires-clause-placed
 place_at-requires-clause-placed c = are_placed c.args.text.now c.args.tokens.now c.requires.lexed
@@ -30,5 +46,6 @@ returns-in-Ok-Large c =
 
 pub returns-in-Err-At : goal.returns-in-Err-At
 returns-in-Err-At c =
-    let h : IsUntold (lexemes c.args.text.now c.args.tokens.now) c.in-Err-At.at = rw c.in-Err-At.field-0-is at c.in-Err-At.ensures in
+    let xs = lexemes c.args.text.now c.args.tokens.now in
+    let h : IsUntold xs (min c.in-Err-At.at (length xs)) = rw c.in-Err-At.field-0-is at c.in-Err-At.ensures in
     untold_at c.args.text.now c.args.tokens.now c.in-Err-At.at _ c.place_at-in-Err-At.ensures c.in_default.ensures h

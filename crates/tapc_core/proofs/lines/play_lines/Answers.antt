@@ -4,9 +4,9 @@ use Rattle.tapc_core.specs.declared.lines.Stop.TheVariants as stop
 use Rattle.tap_base.specs.declared.system.System.{System}
 use Rattle.abstract_run.specs.declared.label.Event.{Event}
 use Rattle.abstract_run.specs.declared.state.State.{State}
-use Rattle.tapc_core.specs.ScheduleText.{IsFirstLine, SpellsEvent, most_events}
+use Rattle.run_text.specs.ScheduleText.{IsFirstLine, SpellsEvent, most_events}
 use Rattle.tapc_core.specs.Serving.{Broken, IsSteady, Plays, Progress, Served}
-use Rattle.tapc_core.specs.TraceText.{process_names}
+use Rattle.run_text.specs.TraceText.{process_names}
 use Rattle.tapc_core.proofs.Steps.{first_line_taken, progress_more, progress_moved, progress_start}
 use Rattle.tapc_core.proofs.lines.play_lines.Goals as goal
 

@@ -1,6 +1,6 @@
 use Rattle.std.proofs.Common.{◌≡◌, ◌+◌, ◌*◌, ◌≤◌, length}
 use Rattle.abstract_run.specs.Calm.{cells_in}
-use Rattle.tapc_core.specs.ScheduleText.{most_events}
+use Rattle.run_text.specs.ScheduleText.{most_events}
 use Rattle.tapc_core.specs.Serving.{IsSteady, Progress}
 use Rattle.tapc_core.proofs.lines.play_lines.Given as goal
 

@@ -1,16 +1,10 @@
 use Rattle.std.proofs.Common.{List, sym, subst}
 use Rattle.tap_base.specs.declared.refusal.Refusal.{Refusal}
 use Rattle.tap_base.specs.declared.token.Token.{Token}
-use Rattle.tap_base.specs.Spans.{AreTexts}
 use Rattle.tap_parser.specs.Texts.{TextAnswers}
 use Rattle.tapc_core.specs.Offences.{Misspells, unlexed}
 use Rattle.tapc_core.proofs.TreesRead.{reads_tokens}
 use Rattle.tapc_core.proofs.texts.tree_of.Goals as goal
-
-pub parse-requires-clause-texts : goal.parse-requires-clause-texts
-parse-requires-clause-texts c =
-    let P : List Token → Type 0 = λ z. AreTexts c.args.text.now z in
-    subst P (sym c.as_slice.ensures) c.in-Ok.ensures.texts
 
 pub returns-in-Ok : goal.returns-in-Ok
 returns-in-Ok c =

@@ -1,0 +1,5 @@
+use Rattle.run_text.proofs.OneTrace.{one_trace}
+use Rattle.run_text.proofs.laws.one_trace.Goals as goal
+
+pub returns : goal.returns
+returns c = one_trace

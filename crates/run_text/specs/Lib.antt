@@ -1,0 +1,5 @@
+pub mod Names
+pub mod OneTrace
+pub mod ScheduleText
+pub mod TraceText
+pub mod Writing

@@ -1,0 +1,16 @@
+//! The text of runs: the lines of traces, written, and the lines of schedules, read.
+#![tactic(auto)]
+
+mod datagrams;
+mod labels;
+mod laws;
+mod number;
+mod schedule;
+mod splits;
+mod vars;
+
+pub use datagrams::write_step;
+pub use labels::write_label;
+pub use laws::{never_both, one_line, one_trace};
+pub use schedule::{first_line, read_event};
+pub use vars::write_all_vars;

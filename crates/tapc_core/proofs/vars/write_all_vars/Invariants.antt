@@ -1,9 +1,0 @@
-use Rattle.std.proofs.Common.{◌≡◌, ◌++◌, drop, length, string_bytes}
-use Rattle.tapc_core.specs.TraceText.{var_lines}
-use Rattle.tapc_core.proofs.vars.write_all_vars.Given as goal
-
--- what is written, and then the lines of the processes that are left, are the whole
-abbrev pub invariant-loop-process : goal.invariant-loop-process
-invariant-loop-process l =
-    string_bytes l.text ++ var_lines (drop (length l.yielded) l.processes) (drop (length l.yielded) l.stores)
-    ≡ string_bytes l.fn.text ++ var_lines l.processes l.stores
