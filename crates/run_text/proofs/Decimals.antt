@@ -5,7 +5,7 @@ use Rattle.std.specs.Fmt.{decimal}
 use Rattle.std.specs.Str.{IsUtf8}
 use Rattle.std.proofs.lemmas.Fmt.{decimal_by_steps, IsAscii-decimal}
 use Rattle.std.proofs.lemmas.Str.{IsUtf8-from_ascii}
-use Rattle.run_text.specs.ScheduleText.{BeginsNumber}
+use Rattle.run_text.specs.inner.Reading.{BeginsNumber}
 
 abbrev Starts : ℕ → List ℕ → Type 0
 Starts n ds = ((n ≡ 0) × (ds ≡ 48 ∷ [])) ⊎ ((48 < slice_index ds 0) × (slice_index ds 0 < 58))

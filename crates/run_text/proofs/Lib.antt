@@ -1,7 +1,10 @@
 pub mod Decimals
+pub mod FewLines
 pub mod LineLabels
 pub mod LineWords
 pub mod OneTrace
+pub mod Options
+pub mod RunLines
 pub mod ScheduleBoth
 pub mod ScheduleLines
-pub mod SentLines
+pub mod Zipped

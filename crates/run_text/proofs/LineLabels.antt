@@ -1,8 +1,8 @@
 -- The label of a line is found again.
 use Rattle.std.proofs.Common.{◌≡◌, ◌≢◌, ◌<◌, ◌≤◌, ◌+◌, ◌-◌, ◌*◌, ◌/◌, ◌%◌, ◌^◌, ◌==◌, ℕ, zero, suc, ℤ, pos, negsuc, Bool, true, false, List, [], ◌∷◌, map, length, drop, get_or, refl, ap, sym, subst, ◌∙◌, arith, if◌then◌else◌, codes, ne_eqb}
-use Rattle.std.specs.Prelude.{flat_map, nat_lt}
+use Rattle.std.specs.Prelude.{flat_map, nat_lt, FitsSigned}
 use Rattle.std.specs.Fmt.{decimal, signed_decimal, digit_glyph}
-use Rattle.std.specs.Int.Signed.{mag}
+use Rattle.std.specs.Int.{w64}
 use Rattle.std.specs.Str.Parse.{AllDigits, digits_value}
 use Rattle.std.specs.Str.{bytes_eq}
 use Rattle.std.proofs.lemmas.Fmt.{decimal_is_IsNumeral}
@@ -10,13 +10,16 @@ use Rattle.std.proofs.lemmas.Slice.Eq.{bytes_eq-Decides}
 use Rattle.std.specs.Bool.{Decides}
 use Rattle.std.proofs.lemmas.Bool.Decides.{Decides-eqb, Decides-ltb, not_from_Decides}
 use Rattle.std.proofs.lemmas.Str.Parse.{digit_at, digit_from_value}
-use Rattle.tap_base.specs.SmallText.{IsWord}
+use Rattle.tap_base.specs.LineWords.{IsWord}
 use Rattle.tap_base.specs.Lists.{Each, IsNoneOf, AreDistinct}
+use Rattle.tap_base.proofs.ListFacts.{each_append}
 use Rattle.abstract_run.specs.declared.label.Label.{Label}
 use Rattle.abstract_run.specs.declared.label.Label.TheVariants as label
-use Rattle.run_text.specs.OneTrace.{AreBytes, IsSized, OneLine}
+use Rattle.run_text.specs.OneTrace.{OneLine}
+use Rattle.run_text.specs.ScheduleText.{Lacks}
+use Rattle.run_text.specs.Sized.{AreBytes, IsSized}
 use Rattle.run_text.specs.TraceText.{hex_digits, hex_word, label_line, name_at, spaced}
-use Rattle.run_text.proofs.LineWords.{Lacks, behind, each_append, spaced_same}
+use Rattle.run_text.proofs.LineWords.{behind, spaced_same}
 
 -- ---- numbers
 
@@ -41,7 +44,7 @@ plain : (ds : List ℕ) → AllDigits 10 ds → 0 < length ds → integer ds ≡
 plain [] h k = absurd (omega (arith, k))
 plain (x ∷ xs) h k = let e = ne_eqb x 45 (let f = first_digit x xs h in omega (arith, f)) in rw e refl
 
-valued : (z : ℤ) → mag z < 2 ^ 63 → integer (signed_decimal z) ≡ z
+valued : (z : ℤ) → FitsSigned w64 z → integer (signed_decimal z) ≡ z
 valued (pos n) h = let d = decimal_is_IsNumeral n (omega (arith, h)) in plain (decimal n) d.0.1 d.0.0 ∙ ap pos d.1
 valued (negsuc n) h = ap minus (counted (suc n) (omega (arith, h)))
 
@@ -224,7 +227,7 @@ all_found : (names : List (List ℕ)) (ps : List ℕ) → AreDistinct names → 
 all_found names [] h k = refl
 all_found names (p ∷ ps) h k = let here = found names p h k.0 in let rest = all_found names ps h k.1 in rw (here, rest) refl
 
-all_valued : (zs : List ℤ) → Each (λ x. mag x < 2 ^ 63) zs → map integer (map signed_decimal zs) ≡ zs
+all_valued : (zs : List ℤ) → Each (FitsSigned w64) zs → map integer (map signed_decimal zs) ≡ zs
 all_valued [] h = refl
 all_valued (z ∷ zs) h = let here = valued z h.0 in let rest = all_valued zs h.1 in rw (here, rest) refl
 
@@ -243,8 +246,8 @@ back names (label.Arrive q p) d h = let a = found names q d h.0 in let b = found
 back names (label.Lose q p i) d h = let a = found names q d h.0 in let b = found names p d h.1 in let c = short i h.2 in rw (a, b, c) refl
 back names (label.Copy q p i) d h = let a = found names q d h.0 in let b = found names p d h.1 in let c = short i h.2 in rw (a, b, c) refl
 back names (label.Move q p i j) d h = let a = found names q d h.0 in let b = found names p d h.1 in let c = short i h.2 in let e = short j h.3 in rw (a, b, c, e) refl
-back names (label.Damage q p i bytes) d h = let a = found names q d h.0 in let b = found names p d h.1 in let c = short i h.2 in let e = hex_back bytes h.3 in rw (a, b, c, e) refl
-back names (label.Forge q p bytes) d h = let a = found names q d h.0 in let b = found names p d h.1 in let e = hex_back bytes h.2 in rw (a, b, e) refl
+back names (label.Damage q p i bytes) d h = let a = found names q d h.0 in let b = found names p d h.1 in let c = short i h.2 in let e = hex_back bytes h.3.1 in rw (a, b, c, e) refl
+back names (label.Forge q p bytes) d h = let a = found names q d h.0 in let b = found names p d h.1 in let e = hex_back bytes h.2.1 in rw (a, b, e) refl
 back names (label.Cut p n) d h = let a = found names p d h.0 in let b = short n h.1 in rw (a, b) refl
 back names (label.Stop p receivers) d h = let a = found names p d h.0 in let b = all_found names receivers d h.1 in rw (a, b) refl
 back names (label.Down p) d h = let a = found names p d h in rw a refl
@@ -280,11 +283,11 @@ decimal_word n h = digits_word (decimal n) (decimal_is_IsNumeral n h).0.1
 short_word : (n : ℕ) → n < 2 ^ 32 → IsWord (decimal n)
 short_word n h = decimal_word n (omega (arith, h))
 
-signed_word : (z : ℤ) → mag z < 2 ^ 63 → IsWord (signed_decimal z)
+signed_word : (z : ℤ) → FitsSigned w64 z → IsWord (signed_decimal z)
 signed_word (pos n) h = decimal_word n (omega (arith, h))
 signed_word (negsuc n) h = ((λ e. omega (arith, e), λ e. omega (arith, e)), decimal_word (suc n) (omega (arith, h)))
 
-signed_words : (zs : List ℤ) → Each (λ x. mag x < 2 ^ 63) zs → Each IsWord (map signed_decimal zs)
+signed_words : (zs : List ℤ) → Each (FitsSigned w64) zs → Each IsWord (map signed_decimal zs)
 signed_words [] h = tt
 signed_words (z ∷ zs) h = (signed_word z h.0, signed_words zs h.1)
 
@@ -318,8 +321,8 @@ words_free names (label.Arrive q p) w h = (name_word names q w h.0, (name_word n
 words_free names (label.Lose q p i) w h = (name_word names q w h.0, (name_word names p w h.1, (short_word i h.2, tt)))
 words_free names (label.Copy q p i) w h = (name_word names q w h.0, (name_word names p w h.1, (short_word i h.2, tt)))
 words_free names (label.Move q p i j) w h = (name_word names q w h.0, (name_word names p w h.1, (short_word i h.2, (short_word j h.3, tt))))
-words_free names (label.Damage q p i bytes) w h = (name_word names q w h.0, (name_word names p w h.1, (short_word i h.2, (hex_is_word bytes h.3, tt))))
-words_free names (label.Forge q p bytes) w h = (name_word names q w h.0, (name_word names p w h.1, (hex_is_word bytes h.2, tt)))
+words_free names (label.Damage q p i bytes) w h = (name_word names q w h.0, (name_word names p w h.1, (short_word i h.2, (hex_is_word bytes h.3.1, tt))))
+words_free names (label.Forge q p bytes) w h = (name_word names q w h.0, (name_word names p w h.1, (hex_is_word bytes h.2.1, tt)))
 words_free names (label.Cut p n) w h = (name_word names p w h.0, (short_word n h.1, tt))
 words_free names (label.Stop p receivers) w h = (name_word names p w h.0, name_words names receivers w h.1)
 words_free names (label.Down p) w h = (name_word names p w h, tt)

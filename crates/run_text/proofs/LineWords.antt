@@ -1,20 +1,13 @@
 -- Words that a separator stands between are found again.
-use Rattle.std.proofs.Common.{◌≡◌, ◌≢◌, ℕ, List, [], ◌∷◌, ◌++◌, refl, ap, sym, ◌∙◌}
+use Rattle.std.proofs.Common.{◌≡◌, ℕ, List, [], ◌∷◌, ◌++◌, refl, ap, sym, ◌∙◌}
 use Rattle.std.specs.Prelude.{flat_map}
 use Rattle.tap_base.specs.Lists.{Each}
-
--- the separator is none of these
-abbrev pub Lacks : ℕ → List ℕ → Type 0
-Lacks b w = Each (λ x. x ≢ b) w
+use Rattle.run_text.specs.ScheduleText.{Lacks}
 
 -- nothing, or the separator first
 pub data Ends (b : ℕ) : List ℕ → Type 0 where
   over : Ends b []
   more : {xs : List ℕ} → Ends b (b ∷ xs)
-
-pub each_append : {A : Type 0} (P : A → Type 0) (xs ys : List A) → Each P xs → Each P ys → Each P (xs ++ ys)
-each_append P [] ys h k = k
-each_append P (x ∷ xs) ys h k = (h.0, each_append P xs ys h.1 k)
 
 head_same : {A : Type 0} (x y : A) (xs ys : List A) → x ∷ xs ≡ y ∷ ys → (x ≡ y) × (xs ≡ ys)
 head_same x y xs ys e = (cc, cc)

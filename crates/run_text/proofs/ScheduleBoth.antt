@@ -2,7 +2,8 @@
 use Rattle.std.proofs.Common.{◌≡◌, ◌≢◌, ◌≤◌, ◌+◌, ◌⊎◌, inl, inr, ℕ, List, [], ◌∷◌, ◌++◌, length, refl, ap, sym, subst, ◌∙◌, arith, append_assoc, append-nil, codes}
 use Rattle.std.specs.Fmt.{decimal}
 use Rattle.tap_base.specs.Lists.{Each}
-use Rattle.tap_base.specs.SmallText.{IsWord}
+use Rattle.tap_base.proofs.ListFacts.{each_append}
+use Rattle.tap_base.specs.LineWords.{IsWord}
 use Rattle.abstract_run.specs.declared.label.Event.{Event}
 use Rattle.abstract_run.specs.declared.label.Event.TheVariants as event
 use Rattle.abstract_run.specs.declared.label.Label.TheVariants as label
@@ -10,7 +11,7 @@ use Rattle.run_text.specs.Names.{AreNames}
 use Rattle.run_text.specs.ScheduleText.{BeginsBadly, GoesOnAfter, IsFirstLine, IsListed, Lacks, NeverBoth, event_line, events_text, most_events}
 use Rattle.run_text.specs.TraceText.{name_at}
 use Rattle.run_text.proofs.LineLabels.{decimal_word, free_word, joined_unbroken, line_unbroken, name_word, unbroken}
-use Rattle.run_text.proofs.LineWords.{behind, each_append, lines_split}
+use Rattle.run_text.proofs.LineWords.{behind, lines_split}
 
 -- ---- lines of events
 

@@ -1,15 +1,15 @@
 -- Which lines are those of events, and which of none.
-use Rattle.std.proofs.Common.{◌≡◌, ◌≢◌, ◌<◌, ◌+◌, ◌^◌, ℕ, zero, suc, Bool, true, false, List, [], ◌∷◌, ◌++◌, map, length, get_or, refl, ap, sym, subst, ◌∙◌, arith, Option, Some, None, codes, append-nil, if◌then◌else◌}
+use Rattle.std.proofs.Common.{◌≡◌, ◌≢◌, ◌<◌, ◌+◌, ◌^◌, ℕ, zero, suc, Bool, true, false, List, [], ◌∷◌, ◌++◌, length, get_or, refl, ap, sym, subst, ◌∙◌, arith, Option, Some, None, codes, append-nil, if◌then◌else◌}
 use Rattle.std.specs.Fmt.{decimal}
 use Rattle.std.specs.List.{position, position_from}
 use Rattle.std.specs.Str.{bytes_eq}
 use Rattle.std.proofs.lemmas.Iterator.Adapters.{position_from-zero}
-use Rattle.std.proofs.lemmas.List.{append_cancel_left, length-map}
+use Rattle.std.proofs.lemmas.List.{append_cancel_left}
 use Rattle.std.proofs.lemmas.Slice.Eq.{bytes_eq-Decides}
-use Rattle.tap_base.specs.declared.system.Process.{Process}
 use Rattle.abstract_run.specs.declared.label.Event.{Event}
 use Rattle.abstract_run.specs.declared.label.Event.TheVariants as event
-use Rattle.run_text.specs.ScheduleText.{AreTwo, AreTwoNames, IsOfNoEvent, Lacks, SpellsEvent}
+use Rattle.run_text.specs.inner.Reading.{AreTwoNames}
+use Rattle.run_text.specs.ScheduleText.{AreTwo, IsOfNoEvent, Lacks, SpellsEvent}
 use Rattle.run_text.specs.Names.{AreNames}
 use Rattle.run_text.specs.TraceText.{name_at}
 use Rattle.run_text.proofs.LineLabels.{found, name_word, place, spaceless}
@@ -17,37 +17,34 @@ use Rattle.run_text.proofs.LineWords.{more, split}
 
 -- ---- names
 
-abbrev names_of : List Process → List (List ℕ)
-names_of ps = map (λ p. p.name) ps
-
-record Named (i k : ℕ) (name : List ℕ) (ps : List Process) : Type 0 where
+record Named (i k : ℕ) (name : List ℕ) (names : List (List ℕ)) : Type 0 where
   place : ℕ
   is : k ≡ i + place
-  there : place < length ps
-  named : name_at (names_of ps) place ≡ name
+  there : place < length names
+  named : name_at names place ≡ name
 
-step_named : (i k : ℕ) (name : List ℕ) (p : Process) (ps : List Process) → Named (i + 1) k name ps → Named i k name (p ∷ ps)
-step_named i k name p ps n = record { place = suc n.place; is = omega (arith, n.is); there = omega (arith, n.there); named = n.named }
+step_named : (i k : ℕ) (name p : List ℕ) (names : List (List ℕ)) → Named (i + 1) k name names → Named i k name (p ∷ names)
+step_named i k name p names n = record { place = suc n.place; is = omega (arith, n.is); there = omega (arith, n.there); named = n.named }
 
-named_from : (i k : ℕ) (name : List ℕ) (ps : List Process) → position_from (λ p. bytes_eq p.name name) i ps ≡ Some k → Named i k name ps
+named_from : (i k : ℕ) (name : List ℕ) (names : List (List ℕ)) → position_from (λ n. bytes_eq n name) i names ≡ Some k → Named i k name names
 named_from i k name [] h = cc
-named_from i k name (p ∷ ps) h = by (bytes_eq p.name name) refl (named_from (i + 1) k name ps) h where
-  by : (b : Bool) → bytes_eq p.name name ≡ b → (position_from (λ p. bytes_eq p.name name) (i + 1) ps ≡ Some k → Named (i + 1) k name ps)
-      → (if b then Some i else position_from (λ p. bytes_eq p.name name) (i + 1) ps) ≡ Some k → Named i k name (p ∷ ps)
-  by true e rest h = record { place = 0; is = let s : i ≡ k = cc in omega (arith, s); there = omega arith; named = (bytes_eq-Decides p.name name).0 e }
-  by false e rest h = step_named i k name p ps (rest h)
+named_from i k name (p ∷ names) h = by (bytes_eq p name) refl (named_from (i + 1) k name names) h where
+  by : (b : Bool) → bytes_eq p name ≡ b → (position_from (λ n. bytes_eq n name) (i + 1) names ≡ Some k → Named (i + 1) k name names)
+      → (if b then Some i else position_from (λ n. bytes_eq n name) (i + 1) names) ≡ Some k → Named i k name (p ∷ names)
+  by true e rest h = record { place = 0; is = let s : i ≡ k = cc in omega (arith, s); there = omega arith; named = (bytes_eq-Decides p name).0 e }
+  by false e rest h = step_named i k name p names (rest h)
 
-none_from : (i p : ℕ) (name : List ℕ) (ps : List Process) → position_from (λ q. bytes_eq q.name name) i ps ≡ None → p < length ps → name_at (names_of ps) p ≡ name → ⊥
+none_from : (i p : ℕ) (name : List ℕ) (names : List (List ℕ)) → position_from (λ n. bytes_eq n name) i names ≡ None → p < length names → name_at names p ≡ name → ⊥
 none_from i p name [] h k same = omega (arith, k)
-none_from i p name (q ∷ ps) h k same = by (bytes_eq q.name name) refl (λ e r. none_from (i + 1) r name ps e) h p k same where
-  by : (b : Bool) → bytes_eq q.name name ≡ b → (position_from (λ q. bytes_eq q.name name) (i + 1) ps ≡ None → (r : ℕ) → r < length ps → name_at (names_of ps) r ≡ name → ⊥)
-      → (if b then Some i else position_from (λ q. bytes_eq q.name name) (i + 1) ps) ≡ None → (p : ℕ) → p < length (q ∷ ps) → name_at (names_of (q ∷ ps)) p ≡ name → ⊥
+none_from i p name (q ∷ names) h k same = by (bytes_eq q name) refl (λ e r. none_from (i + 1) r name names e) h p k same where
+  by : (b : Bool) → bytes_eq q name ≡ b → (position_from (λ n. bytes_eq n name) (i + 1) names ≡ None → (r : ℕ) → r < length names → name_at names r ≡ name → ⊥)
+      → (if b then Some i else position_from (λ n. bytes_eq n name) (i + 1) names) ≡ None → (p : ℕ) → p < length (q ∷ names) → name_at (q ∷ names) p ≡ name → ⊥
   by true e rest h p k same = cc
-  by false e rest h zero k same = let t = (bytes_eq-Decides q.name name).1 same in cc
+  by false e rest h zero k same = let t = (bytes_eq-Decides q name).1 same in cc
   by false e rest h (suc p) k same = rest h p (omega (arith, k)) same
 
-from_first : (name : List ℕ) (ps : List Process) (o : Option ℕ) → position (λ p. bytes_eq p.name name) ps ≡ o → position_from (λ p. bytes_eq p.name name) 0 ps ≡ o
-from_first name ps o h = sym (position_from-zero (λ p. bytes_eq p.name name) ps) ∙ h
+from_first : (name : List ℕ) (names : List (List ℕ)) (o : Option ℕ) → position (λ n. bytes_eq n name) names ≡ o → position_from (λ n. bytes_eq n name) 0 names ≡ o
+from_first name names o h = sym (position_from-zero (λ n. bytes_eq n name) names) ∙ h
 
 same_name : (names : List (List ℕ)) (p q : ℕ) → AreNames names → p < length names → q < length names → name_at names p ≡ name_at names q → p ≡ q
 same_name names p q named h k same = sym (found names p named.1 h) ∙ ap (λ w. place names w) same ∙ found names q named.1 k
@@ -94,64 +91,60 @@ split_turn names words name reading named is lacks t =
       tails : {x y : ℕ} {xs ys : List ℕ} → x ∷ xs ≡ y ∷ ys → xs ≡ ys
       tails e = cc
 
-pub turn_of_no_name : (ps : List Process) (words name reading : List ℕ) → AreNames (names_of ps) → words ≡ name ++ 32 ∷ reading → Lacks 32 name
-    → position (λ p. bytes_eq p.name name) ps ≡ None → IsOfNoEvent (names_of ps) (codes "turn " ++ words)
-turn_of_no_name ps words name reading named is lacks none e h =
-    let t = turn_parts (names_of ps) words e h in
-    let s = split_turn (names_of ps) words name reading named is lacks t in
-    none_from 0 t.p name ps (from_first name ps None none) (subst (λ n. t.p < n) (length-map ps (λ p. p.name)) t.there) (sym s.0)
+pub turn_of_no_name : (names : List (List ℕ)) (words name reading : List ℕ) → AreNames names → words ≡ name ++ 32 ∷ reading → Lacks 32 name
+    → position (λ n. bytes_eq n name) names ≡ None → IsOfNoEvent names (codes "turn " ++ words)
+turn_of_no_name names words name reading named is lacks none e h =
+    let t = turn_parts names words e h in
+    let s = split_turn names words name reading named is lacks t in
+    none_from 0 t.p name names (from_first name names None none) t.there (sym s.0)
 
 pub turn_of_no_number : (names : List (List ℕ)) (words name reading : List ℕ) → AreNames names → words ≡ name ++ 32 ∷ reading → Lacks 32 name
     → ((n : ℕ) → n < 2 ^ 64 → reading ≡ decimal n → ⊥) → IsOfNoEvent names (codes "turn " ++ words)
 turn_of_no_number names words name reading named is lacks none e h =
     let t = turn_parts names words e h in none t.c t.small (split_turn names words name reading named is lacks t).1
 
-pub turn_read : (ps : List Process) (words name reading : List ℕ) (p c : ℕ) → words ≡ name ++ 32 ∷ reading → position (λ q. bytes_eq q.name name) ps ≡ Some p
-    → c < 2 ^ 64 → reading ≡ decimal c → SpellsEvent (names_of ps) (codes "turn " ++ words) (event.Turn p c)
-turn_read ps words name reading p c is found small number =
-    let n = named_from 0 p name ps (from_first name ps (Some p) found) in
+pub turn_read : (names : List (List ℕ)) (words name reading : List ℕ) (p c : ℕ) → words ≡ name ++ 32 ∷ reading → position (λ n. bytes_eq n name) names ≡ Some p
+    → c < 2 ^ 64 → reading ≡ decimal c → SpellsEvent names (codes "turn " ++ words) (event.Turn p c)
+turn_read names words name reading p c is found small number =
+    let n = named_from 0 p name names (from_first name names (Some p) found) in
     let at : p ≡ n.place = omega (arith, n.is) in (
-      (subst (λ k. k < length (names_of ps)) (sym at) (subst (λ m. n.place < m) (sym (length-map ps (λ p. p.name))) n.there), small),
-      ap (λ w. codes "turn " ++ w) (is ∙ ap (λ w. w ++ 32 ∷ reading) (sym n.named ∙ ap (name_at (names_of ps)) (sym at)) ∙ ap (λ w. name_at (names_of ps) p ++ 32 ∷ w) (number ∙ sym (append-nil (decimal c)))),
+      (subst (λ k. k < length names) (sym at) n.there, small),
+      ap (λ w. codes "turn " ++ w) (is ∙ ap (λ w. w ++ 32 ∷ reading) (sym n.named ∙ ap (name_at names) (sym at)) ∙ ap (λ w. name_at names p ++ 32 ∷ w) (number ∙ sym (append-nil (decimal c)))),
     )
 
 -- ---- two names
 
 -- the process at the place where a name was found
-record At (ps : List Process) (p : ℕ) (name : List ℕ) : Type 0 where
-  there : p < length (names_of ps)
-  named : name ≡ name_at (names_of ps) p
+record At (names : List (List ℕ)) (p : ℕ) (name : List ℕ) : Type 0 where
+  there : p < length names
+  named : name ≡ name_at names p
 
-at : (ps : List Process) (p : ℕ) (name : List ℕ) → position (λ q. bytes_eq q.name name) ps ≡ Some p → At ps p name
-at ps p name h =
-    let n = named_from 0 p name ps (from_first name ps (Some p) h) in
+at : (names : List (List ℕ)) (p : ℕ) (name : List ℕ) → position (λ n. bytes_eq n name) names ≡ Some p → At names p name
+at names p name h =
+    let n = named_from 0 p name names (from_first name names (Some p) h) in
     let e : p ≡ n.place = omega (arith, n.is) in
     record {
-      there = subst (λ k. k < length (names_of ps)) (sym e) (subst (λ m. n.place < m) (sym (length-map ps (λ p. p.name))) n.there);
-      named = sym n.named ∙ ap (name_at (names_of ps)) (sym e);
+      there = subst (λ k. k < length names) (sym e) n.there;
+      named = sym n.named ∙ ap (name_at names) (sym e);
     }
 
-within : (ps : List Process) (p : ℕ) → p < length (names_of ps) → p < length ps
-within ps p h = subst (λ n. p < n) (length-map ps (λ p. p.name)) h
+pub no_sender : (names : List (List ℕ)) (sender receiver : List ℕ) → position (λ n. bytes_eq n sender) names ≡ None → (q p : ℕ) → AreTwoNames names q p sender receiver → ⊥
+no_sender names sender receiver none q p two = none_from 0 q sender names (from_first sender names None none) two.two.0 (sym two.from)
 
-pub no_sender : (ps : List Process) (sender receiver : List ℕ) → position (λ p. bytes_eq p.name sender) ps ≡ None → (q p : ℕ) → AreTwoNames (names_of ps) q p sender receiver → ⊥
-no_sender ps sender receiver none q p two = none_from 0 q sender ps (from_first sender ps None none) (within ps q two.two.0) (sym two.from)
+pub no_receiver : (names : List (List ℕ)) (sender receiver : List ℕ) → position (λ n. bytes_eq n receiver) names ≡ None → (q p : ℕ) → AreTwoNames names q p sender receiver → ⊥
+no_receiver names sender receiver none q p two = none_from 0 p receiver names (from_first receiver names None none) two.two.1 (sym two.to)
 
-pub no_receiver : (ps : List Process) (sender receiver : List ℕ) → position (λ p. bytes_eq p.name receiver) ps ≡ None → (q p : ℕ) → AreTwoNames (names_of ps) q p sender receiver → ⊥
-no_receiver ps sender receiver none q p two = none_from 0 p receiver ps (from_first receiver ps None none) (within ps p two.two.1) (sym two.to)
-
-pub not_two : (ps : List Process) (sender receiver : List ℕ) (i j : ℕ) → AreNames (names_of ps) → position (λ p. bytes_eq p.name sender) ps ≡ Some i
-    → position (λ p. bytes_eq p.name receiver) ps ≡ Some j → i ≡ j → (q p : ℕ) → AreTwoNames (names_of ps) q p sender receiver → ⊥
-not_two ps sender receiver i j named from to same q p two =
-    let names = names_of ps in
-    let a = at ps i sender from in
-    let b = at ps j receiver to in
+pub not_two : (names : List (List ℕ)) (sender receiver : List ℕ) (i j : ℕ) → AreNames names → position (λ n. bytes_eq n sender) names ≡ Some i
+    → position (λ n. bytes_eq n receiver) names ≡ Some j → i ≡ j → (q p : ℕ) → AreTwoNames names q p sender receiver → ⊥
+not_two names sender receiver i j named from to same q p two =
+    let a = at names i sender from in
+    let b = at names j receiver to in
     two.two.2 (same_name names q p named two.two.0 two.two.1 (sym two.from ∙ a.named ∙ ap (name_at names) same ∙ sym b.named ∙ two.to))
 
-pub are_two : (ps : List Process) (sender receiver : List ℕ) (q p : ℕ) → position (λ r. bytes_eq r.name sender) ps ≡ Some q
-    → position (λ r. bytes_eq r.name receiver) ps ≡ Some p → q ≢ p → AreTwoNames (names_of ps) q p sender receiver
-are_two ps sender receiver q p from to apart =
-    let a = at ps q sender from in let b = at ps p receiver to in record { two = (a.there, b.there, apart); from = a.named; to = b.named }
+pub are_two : (names : List (List ℕ)) (sender receiver : List ℕ) (q p : ℕ) → position (λ n. bytes_eq n sender) names ≡ Some q
+    → position (λ n. bytes_eq n receiver) names ≡ Some p → q ≢ p → AreTwoNames names q p sender receiver
+are_two names sender receiver q p from to apart =
+    let a = at names q sender from in let b = at names p receiver to in record { two = (a.there, b.there, apart); from = a.named; to = b.named }
 
 tails : {x y : ℕ} {xs ys : List ℕ} → x ∷ xs ≡ y ∷ ys → xs ≡ ys
 tails e = cc

@@ -1,7 +1,7 @@
 -- Names that tell the processes of a system apart in its lines.
 use Rattle.std.specs.Prelude.{ℕ, List}
+use Rattle.tap_base.specs.LineWords.{IsWord}
 use Rattle.tap_base.specs.Lists.{Each, AreDistinct}
-use Rattle.tap_base.specs.SmallText.{IsWord}
 
 -- Names that are words, each of one process alone.
 abbrev pub AreNames : List (List ℕ) → Type 0

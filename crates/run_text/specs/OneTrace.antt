@@ -1,48 +1,32 @@
--- A text is the trace of at most one list of labels.
-use Rattle.std.specs.Prelude.{◌≡◌, ℕ, ◌<◌, ◌^◌, length, List, Some}
-use Rattle.std.specs.Int.Signed.{mag}
+-- What the trace of a run is, and that a text is the trace of at most one list of labels.
+use Rattle.std.specs.Prelude.{◌≡◌, ℕ, ◌≤◌, length, List, Some}
 use Rattle.tap_base.specs.Lists.{Each}
-use Rattle.tap_base.specs.declared.system.System.{System}
 use Rattle.abstract_run.specs.declared.label.Label.{Label}
-use Rattle.abstract_run.specs.declared.label.Label.TheVariants as label
 use Rattle.abstract_run.specs.declared.state.State.{State}
+use Rattle.abstract_run.specs.Semantics.{Semantics}
 use Rattle.run_text.specs.Names.{AreNames}
-use Rattle.run_text.specs.TraceText.{label_line, process_names, trace_text}
+use Rattle.run_text.specs.Sized.{IsSized}
+use Rattle.run_text.specs.TraceText.{label_line, lines_text, names_in, trace_lines}
 
--- a number of at most 32 bits
-abbrev pub IsShortNumber : ℕ → Type 0
-IsShortNumber i = i < 2 ^ 32
+-- how many lines a trace has at most
+abbrev pub most_lines : ℕ
+most_lines = 4294967295
 
-abbrev pub AreBytes : List ℕ → Type 0
-AreBytes bytes = Each (λ b. b < 256) bytes
-
--- Each number of a label is one that its field holds, and each process is one of so many.
-abbrev pub IsSized : ℕ → Label → Type 0
-IsSized n (label.Tick p c) = (p < n) × (c < 2 ^ 64)
-IsSized n (label.Reject q p i) = (q < n) × (p < n) × IsShortNumber i
-IsSized n (label.Act p a choices) = (p < n) × IsShortNumber a × Each (λ x. mag x < 2 ^ 63) choices
-IsSized n (label.Idle p) = p < n
-IsSized n (label.Flood p) = p < n
-IsSized n (label.Arrive q p) = (q < n) × (p < n)
-IsSized n (label.Lose q p i) = (q < n) × (p < n) × IsShortNumber i
-IsSized n (label.Copy q p i) = (q < n) × (p < n) × IsShortNumber i
-IsSized n (label.Move q p i j) = (q < n) × (p < n) × IsShortNumber i × IsShortNumber j
-IsSized n (label.Damage q p i bytes) = (q < n) × (p < n) × IsShortNumber i × AreBytes bytes
-IsSized n (label.Forge q p bytes) = (q < n) × (p < n) × AreBytes bytes
-IsSized n (label.Cut p i) = (p < n) × IsShortNumber i
-IsSized n (label.Stop p receivers) = (p < n) × Each (λ q. q < n) receivers
-IsSized n (label.Down p) = p < n
-IsSized n label.Void = Unit {0}
+-- The bytes are the trace of the labels from a state on: the text of their lines, which are not too many, and each
+-- number of a label is one that its field holds.
+pub record IsTraceOf (semantics : Semantics) (s : State) (labels : List Label) (bytes : List ℕ) : Type 0 where
+  pub lines : List (List ℕ)
+  pub told : trace_lines semantics s labels ≡ Some lines
+  pub sized : Each (IsSized (length semantics.processes)) labels
+  pub few : length lines ≤ most_lines
+  pub text : bytes ≡ lines_text lines
 
 -- A line is that of at most one label.
 abbrev pub OneLine : Type 0
 OneLine = (names : List (List ℕ)) (l m : Label) → AreNames names → IsSized (length names) l → IsSized (length names) m
     → label_line names l ≡ label_line names m → l ≡ m
 
--- ---- a whole trace
-
--- A text is the trace of at most one list of labels.
+-- Bytes are the trace of at most one list of labels from a state on.
 abbrev pub OneTrace : Type 0
-OneTrace = (system : System) (s : State) (text : List ℕ) (labels others : List Label) → AreNames (process_names system)
-    → Each (IsSized (length system.processes)) labels → Each (IsSized (length system.processes)) others
-    → trace_text system s labels ≡ Some text → trace_text system s others ≡ Some text → labels ≡ others
+OneTrace = (semantics : Semantics) (s : State) (bytes : List ℕ) (labels others : List Label) → AreNames (names_in semantics)
+    → IsTraceOf semantics s labels bytes → IsTraceOf semantics s others bytes → labels ≡ others

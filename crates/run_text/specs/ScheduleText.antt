@@ -1,5 +1,5 @@
 -- The text of a schedule: a line for each event.
-use Rattle.std.specs.Prelude.{◌≡◌, ℕ, ◌^◌, ◌<◌, ◌≤◌, ◌≢◌, ◌⊎◌, length, List, [], ◌∷◌, ◌++◌, map, codes, slice_index}
+use Rattle.std.specs.Prelude.{◌≡◌, ℕ, ◌^◌, ◌<◌, ◌≤◌, ◌≢◌, ◌⊎◌, length, List, [], ◌∷◌, ◌++◌, map, codes}
 use Rattle.std.specs.Fmt.{decimal}
 use Rattle.tap_base.specs.Lists.{Each}
 use Rattle.abstract_run.specs.declared.label.Event.{Event}
@@ -25,16 +25,6 @@ event_line names (event.Turn p c) = spaced (codes "turn") (name_at names p ∷ d
 event_line names (event.Arrive q p) = spaced (codes "arrive") (name_at names q ∷ name_at names p ∷ [])
 event_line names (event.Lose q p i) = spaced (codes "lose") (name_at names q ∷ name_at names p ∷ decimal i ∷ [])
 event_line names _ = []
-
--- a word that is `0` or begins with another digit
-abbrev pub BeginsNumber : List ℕ → Type 0
-BeginsNumber word = (word ≡ 48 ∷ []) ⊎ ((48 < slice_index word 0) × (slice_index word 0 < 58))
-
--- The names are those of two different processes.
-pub record AreTwoNames (names : List (List ℕ)) (q p : ℕ) (sender receiver : List ℕ) : Type 0 where
-  pub two : AreTwo (length names) q p
-  pub from : sender ≡ name_at names q
-  pub to : receiver ≡ name_at names p
 
 -- The line is that of the event.
 abbrev pub SpellsEvent : List (List ℕ) → List ℕ → Event → Type 0

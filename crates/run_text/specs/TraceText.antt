@@ -1,21 +1,20 @@
 -- The text of a run: a line for each label and each datagram that went out, the last values of the variables, and the
--- end.
-use Rattle.std.specs.Prelude.{ℕ, ℤ, ◌/◌, ◌%◌, ◌-◌, false, List, [], ◌∷◌, ◌++◌, length, map, flat_map, zip, take, drop, slice_get, unwrap_or, codes, Option, Some, None, is_none}
+-- end. Lines have no line feed until `lines_text` joins them.
+use Rattle.std.specs.Prelude.{ℕ, ℤ, ◌/◌, ◌%◌, ◌-◌, false, List, [], ◌∷◌, ◌++◌, length, map, flat_map, take, drop, slice_get, unwrap_or, codes, Option, Some, None, is_none}
 use Rattle.std.specs.Option.{option_map}
 use Rattle.std.specs.Fmt.{decimal, signed_decimal, digit_glyph}
-use Rattle.tap_base.specs.declared.system.System.{System}
-use Rattle.tap_base.specs.declared.system.Process.{Process}
 use Rattle.tap_base.specs.declared.system.Var.{Var}
+use Rattle.tap_base.specs.Option.{◌>>=◌, each, provided}
+use Rattle.tap_exec.specs.declared.running.Outgoing.{Outgoing}
 use Rattle.abstract_run.specs.declared.label.Label.{Label}
 use Rattle.abstract_run.specs.declared.label.Label.TheVariants as label
 use Rattle.abstract_run.specs.declared.state.Falling.{Falling}
-use Rattle.abstract_run.specs.declared.state.Outgoing.{Outgoing}
 use Rattle.abstract_run.specs.declared.state.State.{State}
-use Rattle.abstract_run.specs.Meaning.{meaning_of}
-use Rattle.abstract_run.specs.Option.{◌>>=◌, each, provided}
 use Rattle.abstract_run.specs.Run.{state_after}
+use Rattle.abstract_run.specs.Semantics.{Semantics}
 use Rattle.abstract_run.specs.Spelling.{spelled}
 use Rattle.abstract_run.specs.Step.{After, step}
+use Rattle.run_text.specs.declared.names.VarName.{VarName}
 
 -- ---- words
 
@@ -36,17 +35,26 @@ abbrev pub hex_word : List ℕ → List ℕ
 hex_word [] = codes "-"
 hex_word (b ∷ bs) = flat_map hex_digits (b ∷ bs)
 
--- ---- labels
+-- ---- names
 
 -- the names of the processes, in order of declaration
-abbrev pub process_names : System → List (List ℕ)
-process_names system = map (λ p. p.name) system.processes
+abbrev pub names_in : Semantics → List (List ℕ)
+names_in semantics = map (λ p. p.name) semantics.processes
+
+abbrev pub var_name : Var → VarName
+var_name v = record { text = v.name; cells = v.cells }
+
+-- the names of the variables of each process, in order of declaration
+abbrev pub vars_in : Semantics → List (List VarName)
+vars_in semantics = map (λ p. map var_name p.vars) semantics.processes
 
 -- the name of a process by its number; no bytes where there is none, which no label and no send of a run names
 abbrev pub name_at : List (List ℕ) → ℕ → List ℕ
 name_at names p = unwrap_or (slice_get names p) []
 
--- the line of a label, without its line feed
+-- ---- labels
+
+-- the line of a label
 abbrev pub label_line : List (List ℕ) → Label → List ℕ
 label_line names (label.Tick p c) = spaced (codes "tick") (name_at names p ∷ decimal c ∷ [])
 label_line names (label.Reject q p i) = spaced (codes "reject") (name_at names q ∷ name_at names p ∷ decimal i ∷ [])
@@ -66,37 +74,45 @@ label_line names label.Void = codes "void"
 
 -- ---- datagrams
 
+-- a datagram: its receiver, and its bytes
+abbrev pub Datagram : Type 0
+Datagram = ℕ × List ℕ
+
+-- a send as a datagram; none where its message is not declared
+abbrev pub datagram : Semantics → Outgoing → Option Datagram
+datagram semantics o = option_map (λ bytes. (o.to, bytes)) (spelled semantics o.message o.values)
+
 -- the receivers of the sends that a fallen cut takes back
 abbrev pub taken_back : Option Falling → List ℕ
 taken_back None = []
 taken_back (Some f) = f.receivers
 
--- the datagrams that went out in a step: all that were sent, but where a cut fell those before the failed one
+-- the sends that went out in a step: all that were sent, but where a cut fell those before the failed one
 abbrev pub went_out : After → List Outgoing
 went_out after = take (length after.1 - length (taken_back after.0.falling)) after.1
 
--- the line of a datagram with the bytes of its message, without its line feed; none where the message is not declared
-abbrev pub sent_line : System → Outgoing → Option (List ℕ)
-sent_line system o = option_map (λ bytes. spaced (codes "sent") (name_at (process_names system) o.to ∷ hex_word bytes ∷ [])) (spelled (meaning_of system) o.message o.values)
+-- the line of a datagram
+abbrev pub sent_line : List (List ℕ) → Datagram → List ℕ
+sent_line names d = spaced (codes "sent") (name_at names d.0 ∷ hex_word d.1 ∷ [])
 
--- the lines of datagrams, in order
-abbrev pub sent_lines : System → List Outgoing → Option (List ℕ)
-sent_lines system sends = option_map lines_text (each (sent_line system) sends)
+-- ---- the labels of a run
 
--- ---- steps
+-- labels from a state on, each with the datagrams that went out with it; none where a label is not possible in its turn
+abbrev pub with_sents : Semantics → State → List Label → Option (List (Label × List Datagram))
+with_sents semantics s [] = Some []
+with_sents semantics s (l ∷ ls) = do
+  after ← step semantics s l
+  out ← each (datagram semantics) (went_out after)
+  more ← with_sents semantics after.0 ls
+  Some ((l, out) ∷ more)
 
--- the lines of one step: that of its label, and behind it those of the datagrams that went out
-abbrev pub step_lines : System → Label → After → Option (List ℕ)
-step_lines system l after = option_map (λ sents. label_line (process_names system) l ++ 10 ∷ sents) (sent_lines system (went_out after))
+-- the line of a label, and behind it those of the datagrams that went out with it
+abbrev pub lines_with : List (List ℕ) → Label × List Datagram → List (List ℕ)
+lines_with names x = label_line names x.0 ∷ map (sent_line names) x.1
 
--- the lines of labels from a state on, step by step; none where a label is not possible in its turn
-abbrev pub label_lines : System → State → List Label → Option (List ℕ)
-label_lines system s [] = Some []
-label_lines system s (l ∷ ls) = do
-  after ← step (meaning_of system) s l
-  here ← step_lines system l after
-  more ← label_lines system after.0 ls
-  Some (here ++ more)
+-- the lines of labels from a state on
+abbrev pub run_lines : Semantics → State → List Label → Option (List (List ℕ))
+run_lines semantics s labels = option_map (flat_map (lines_with (names_in semantics))) (with_sents semantics s labels)
 
 -- ---- variables
 
@@ -105,29 +121,34 @@ abbrev pub var_line : List ℕ → List ℕ → List ℤ → List ℕ
 var_line process name values = spaced (codes "var") (process ∷ name ∷ map signed_decimal values)
 
 -- the lines of the variables of a process, which share out its cells in order of declaration
-abbrev pub vars_of : List ℕ → List Var → List ℤ → List (List ℕ)
+abbrev pub vars_of : List ℕ → List VarName → List ℤ → List (List ℕ)
 vars_of process [] cells = []
-vars_of process (v ∷ vs) cells = var_line process v.name (take v.cells cells) ∷ vars_of process vs (drop v.cells cells)
+vars_of process (v ∷ vs) cells = var_line process v.text (take v.cells cells) ∷ vars_of process vs (drop v.cells cells)
 
--- the lines of the variables of every process, from the cells of each
-abbrev pub var_lines : List Process → List (List ℤ) → List ℕ
-var_lines processes stores = lines_text (flat_map (λ x. vars_of x.0.name x.0.vars x.1) (zip processes stores))
+-- the lines of the variables of every process: for each its name, its variables and its cells
+abbrev pub var_lines : List (List ℕ) → List (List VarName) → List (List ℤ) → List (List ℕ)
+var_lines (process ∷ names) (own ∷ vars) (cells ∷ stores) = vars_of process own cells ++ var_lines names vars stores
+var_lines _ _ _ = []
 
 -- ---- a run
 
-abbrev pub end_line : List ℕ
-end_line = codes "end\n"
+-- the lines behind those of the labels: the value of each variable in the last state, and the end
+abbrev pub last_lines : Semantics → State → List (List ℕ)
+last_lines semantics s = var_lines (names_in semantics) (vars_in semantics) s.stores ++ codes "end" ∷ []
 
 -- the last state of a run, where nothing is falling
-abbrev pub settled_after : System → State → List Label → Option State
-settled_after system s labels = do
-  last ← state_after (meaning_of system) s labels
+abbrev pub settled_after : Semantics → State → List Label → Option State
+settled_after semantics s labels = do
+  last ← state_after semantics s labels
   provided (is_none last.falling) last
 
--- the text of a run from a state on: the lines of its labels, the last value of each variable, and the end; none where
--- the labels are no run, or something is falling at its end
-abbrev pub trace_text : System → State → List Label → Option (List ℕ)
-trace_text system s labels = do
-  lines ← label_lines system s labels
-  last ← settled_after system s labels
-  Some (lines ++ var_lines system.processes last.stores ++ end_line)
+-- the lines of a run from a state on; none where the labels are no run, or something is falling at its end
+abbrev pub trace_lines : Semantics → State → List Label → Option (List (List ℕ))
+trace_lines semantics s labels = do
+  lines ← run_lines semantics s labels
+  last ← settled_after semantics s labels
+  Some (lines ++ last_lines semantics last)
+
+-- the text of a run from a state on
+abbrev pub trace_text : Semantics → State → List Label → Option (List ℕ)
+trace_text semantics s labels = option_map lines_text (trace_lines semantics s labels)

@@ -1,70 +1,22 @@
-//! The lines of one step, written into a text: that of its label, and those of what it sent.
+//! The line of a datagram, written into a text.
 
 ghost use Rattle.std.specs.Prelude.{◌≡◌, [], ◌∷◌, ◌++◌, OnOk, string_bytes};
-ghost use Rattle.std.specs.Option.{option_map};
-ghost use Rattle.tap_base.specs.Lists.{Each};
-ghost use Rattle.tap_base.specs.Small.{IsSmall};
-ghost use Rattle.abstract_run.specs.Fits.{IsFitSend};
-ghost use Rattle.abstract_run.specs.Meaning.{meaning_of};
-ghost use Rattle.run_text.specs.Writing.{Wrote};
-ghost use Rattle.run_text.specs.TraceText.{label_line, process_names, sent_line, sent_lines};
+ghost use Rattle.run_text.specs.TraceText.{sent_line};
 
-use crate::labels::{name, write_hex, write_label};
-use abstract_run::{Label, Outgoing, spell};
-use std::alloc::Global;
-use tap_base::{NoMemory, System};
+use crate::labels::write_hex;
+use crate::names::{Names, name};
+use tap_base::NoMemory;
 
-/// Appends the line of a label, and behind it those of the datagrams that were sent.
+/// Appends the line of a datagram, and its line feed.
 ///
 /// # Errors
 ///
-/// `NoMemory`; the text may then have a front of the lines.
-pub fn write_step(
-    alloc: Global,
-    text: &mut String,
-    system: &System,
-    label: &Label,
-    sends: &[Outgoing],
-) -> Result<(), NoMemory>
-    requires small { IsSmall system.now }
-    requires fit { Each (IsFitSend (meaning_of system.now)) sends.now }
-    ensures { OnOk result (Wrote (option_map (λ sents. label_line (process_names system.now) label.now ++ 10 ∷ sents) (sent_lines system.now sends.now)) (string_bytes text.old) (string_bytes text.new)) }
+/// `NoMemory`; the text may then have a front of the line.
+pub fn write_sent(text: &mut String, names: &Names, to: u32, bytes: &[u8]) -> Result<(), NoMemory>
+    ensures { OnOk result (string_bytes text.new ≡ string_bytes text.old ++ sent_line names.now.processes (to, bytes.now) ++ 10 ∷ []) }
 {
-    write_label(text, system, label)?;
-    write_sends(alloc, text, system, sends)
-}
-
-/// Appends the lines of datagrams, in order.
-fn write_sends(
-    alloc: Global,
-    text: &mut String,
-    system: &System,
-    sends: &[Outgoing],
-) -> Result<(), NoMemory>
-    requires small { IsSmall system.now }
-    requires fit { Each (IsFitSend (meaning_of system.now)) sends.now }
-    ensures { OnOk result (Wrote (sent_lines system.now sends.now) (string_bytes text.old) (string_bytes text.new)) }
-{
-    for send in sends {
-        write_sent(alloc, text, system, send)?;
-    }
-    Ok(())
-}
-
-/// Appends the line of a datagram, and its line feed.
-fn write_sent(
-    alloc: Global,
-    text: &mut String,
-    system: &System,
-    send: &Outgoing,
-) -> Result<(), NoMemory>
-    requires small { IsSmall system.now }
-    requires fit { IsFitSend (meaning_of system.now) send.now }
-    ensures { OnOk result (Wrote (option_map (λ line. line ++ 10 ∷ []) (sent_line system.now send.now)) (string_bytes text.old) (string_bytes text.new)) }
-{
-    let bytes = spell(alloc, system, send.message, &send.values)?;
-    write!(text, "sent {} ", name(system, send.to))?;
-    write_hex(text, bytes.as_slice())?;
+    write!(text, "sent {} ", name(names, to))?;
+    write_hex(text, bytes)?;
     writeln!(text)?;
     Ok(())
 }

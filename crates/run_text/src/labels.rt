@@ -2,39 +2,30 @@
 
 ghost use Rattle.std.specs.Prelude.{◌≡◌, [], ◌∷◌, ◌++◌, map, flat_map, OnOk, codes, string_bytes};
 ghost use Rattle.std.specs.Fmt.{signed_decimal};
-ghost use Rattle.run_text.specs.TraceText.{hex_digits, hex_word, label_line, label_lines, lines_text, name_at, process_names, spaced};
+ghost use Rattle.run_text.specs.TraceText.{hex_digits, hex_word, label_line, name_at};
 
+use crate::names::{Names, name};
 use abstract_run::Label;
-use tap_base::{NoMemory, System, item};
-
-/// The name of a process, which is empty where there is none of that number.
-pub fn name(system: &System, process: u32) -> &str
-    ensures { result.now ≡ name_at (process_names system.now) process }
-{
-    match item(system.processes.as_slice(), process as usize) {
-        Some(found) => found.name.as_str(),
-        None => "",
-    }
-}
+use tap_base::NoMemory;
 
 /// Appends the line of a label, and its line feed.
 ///
 /// # Errors
 ///
 /// `NoMemory`; the text may then have a front of the line.
-pub fn write_label(text: &mut String, system: &System, label: &Label) -> Result<(), NoMemory>
-    ensures { OnOk result (string_bytes text.new ≡ string_bytes text.old ++ label_line (process_names system.now) label.now ++ 10 ∷ []) }
+pub fn write_label(text: &mut String, names: &Names, label: &Label) -> Result<(), NoMemory>
+    ensures { OnOk result (string_bytes text.new ≡ string_bytes text.old ++ label_line names.now.processes label.now ++ 10 ∷ []) }
 {
-    write_words(text, system, label)?;
+    write_words(text, names, label)?;
     writeln!(text)?;
     Ok(())
 }
 
 /// Appends the line of a label without its line feed.
-fn write_words(text: &mut String, system: &System, label: &Label) -> Result<(), NoMemory>
-    ensures { OnOk result (string_bytes text.new ≡ string_bytes text.old ++ label_line (process_names system.now) label.now) }
+fn write_words(text: &mut String, names: &Names, label: &Label) -> Result<(), NoMemory>
+    ensures { OnOk result (string_bytes text.new ≡ string_bytes text.old ++ label_line names.now.processes label.now) }
 {
-    let name = |process: &u32| name(system, *process);
+    let name = |process: &u32| name(names, *process);
     match label {
         Label::Tick { process, reading } => Ok(write!(text, "tick {} {reading}", name(process))?),
         Label::Reject { from, to, place } => {
@@ -79,7 +70,7 @@ fn write_words(text: &mut String, system: &System, label: &Label) -> Result<(), 
         Label::Cut { process, sends } => Ok(write!(text, "cut {} {sends}", name(process))?),
         Label::Stop { process, receivers } => {
             write!(text, "stop {}", name(process))?;
-            write_names(text, system, receivers.as_slice())
+            write_names(text, names, receivers.as_slice())
         }
         Label::Down { process } => Ok(write!(text, "down {}", name(process))?),
         Label::Void => Ok(write!(text, "void")?),
@@ -97,11 +88,11 @@ pub fn write_values(text: &mut String, values: &[i64]) -> Result<(), NoMemory>
 }
 
 /// Appends the names of processes, each behind a space.
-fn write_names(text: &mut String, system: &System, processes: &[u32]) -> Result<(), NoMemory>
-    ensures { OnOk result (string_bytes text.new ≡ string_bytes text.old ++ flat_map (λ w. 32 ∷ w) (map (name_at (process_names system.now)) processes.now)) }
+fn write_names(text: &mut String, names: &Names, processes: &[u32]) -> Result<(), NoMemory>
+    ensures { OnOk result (string_bytes text.new ≡ string_bytes text.old ++ flat_map (λ w. 32 ∷ w) (map (name_at names.now.processes) processes.now)) }
 {
     for process in processes {
-        write!(text, " {}", name(system, *process))?;
+        write!(text, " {}", name(names, *process))?;
     }
     Ok(())
 }

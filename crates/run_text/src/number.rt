@@ -2,7 +2,7 @@
 
 ghost use Rattle.std.specs.Prelude.{◌≡◌, ◌↔◌, ◌<◌, ◌^◌, ℕ, Some, IsTrue, IfSome};
 ghost use Rattle.std.specs.Fmt.{decimal};
-ghost use Rattle.run_text.specs.ScheduleText.{BeginsNumber};
+ghost use Rattle.run_text.specs.inner.Reading.{BeginsNumber};
 
 /// The number that a word writes in decimal, without a sign and without zeros in front; none where
 /// there is none of 64 bits.

@@ -4,13 +4,14 @@ ghost use Rattle.std.specs.Prelude.{◌≡◌, ◌++◌, ◌<◌, ◌^◌, ℕ, 
 ghost use Rattle.std.specs.Fmt.{decimal};
 ghost use Rattle.std.specs.List.{position};
 ghost use Rattle.run_text.specs.Names.{AreNames};
-ghost use Rattle.run_text.specs.ScheduleText.{AreTwoNames, IsFirstLine, IsOfNoEvent, Lacks, SpellsEvent};
-ghost use Rattle.run_text.specs.TraceText.{process_names};
+ghost use Rattle.run_text.specs.inner.Reading.{AreTwoNames};
+ghost use Rattle.run_text.specs.ScheduleText.{IsFirstLine, IsOfNoEvent, Lacks, SpellsEvent};
 
+use crate::names::Names;
 use crate::number::read_number;
 use crate::splits::split_at_first;
 use abstract_run::Event;
-use tap_base::{Process, System};
+use tap_base::Text;
 
 /// The first line of a text without its line feed, and what is behind it.
 pub fn first_line(text: &[u8]) -> (&[u8], &[u8])
@@ -24,33 +25,33 @@ pub fn first_line(text: &[u8]) -> (&[u8], &[u8])
 }
 
 /// The event of a line, which has no line feed; none exactly where the line is that of no event.
-pub fn read_event(line: &[u8], system: &System) -> Option<Event>
-    requires named { AreNames (process_names system.now) }
-    requires few { length system.now.processes < 2 ^ 32 }
-    ensures { MatchOption result (IsOfNoEvent (process_names system.now) line.now) (λ e. SpellsEvent (process_names system.now) line.now e) }
+pub fn read_event(line: &[u8], names: &Names) -> Option<Event>
+    requires named { AreNames names.now.processes }
+    requires few { length names.now.processes < 2 ^ 32 }
+    ensures { MatchOption result (IsOfNoEvent names.now.processes line.now) (λ e. SpellsEvent names.now.processes line.now e) }
 {
     if let Some(words) = line.strip_prefix(b"turn ") {
-        return read_turn(words, system);
+        return read_turn(words, names);
     }
     if let Some(words) = line.strip_prefix(b"arrive ") {
-        return read_arrival(words, system);
+        return read_arrival(words, names);
     }
     if let Some(words) = line.strip_prefix(b"lose ") {
-        return read_loss(words, system);
+        return read_loss(words, names);
     }
     None
 }
 
 /// The turn of a line, from the words behind its first one.
-fn read_turn(words: &[u8], system: &System) -> Option<Event>
-    requires named { AreNames (process_names system.now) }
-    requires few { length system.now.processes < 2 ^ 32 }
-    ensures { MatchOption result (IsOfNoEvent (process_names system.now) (codes "turn " ++ words.now)) (λ e. SpellsEvent (process_names system.now) (codes "turn " ++ words.now) e) }
+fn read_turn(words: &[u8], names: &Names) -> Option<Event>
+    requires named { AreNames names.now.processes }
+    requires few { length names.now.processes < 2 ^ 32 }
+    ensures { MatchOption result (IsOfNoEvent names.now.processes (codes "turn " ++ words.now)) (λ e. SpellsEvent names.now.processes (codes "turn " ++ words.now) e) }
 {
     let Some((name, reading)) = split_at_first(words, b' ') else {
         return None;
     };
-    let Some(process) = process_named(system, name) else {
+    let Some(process) = process_named(names, name) else {
         return None;
     };
     let Some(reading) = read_number(reading) else {
@@ -60,25 +61,25 @@ fn read_turn(words: &[u8], system: &System) -> Option<Event>
 }
 
 /// The arrival of a line, from the words behind its first one.
-fn read_arrival(words: &[u8], system: &System) -> Option<Event>
-    requires named { AreNames (process_names system.now) }
-    requires few { length system.now.processes < 2 ^ 32 }
-    ensures { MatchOption result (IsOfNoEvent (process_names system.now) (codes "arrive " ++ words.now)) (λ e. SpellsEvent (process_names system.now) (codes "arrive " ++ words.now) e) }
+fn read_arrival(words: &[u8], names: &Names) -> Option<Event>
+    requires named { AreNames names.now.processes }
+    requires few { length names.now.processes < 2 ^ 32 }
+    ensures { MatchOption result (IsOfNoEvent names.now.processes (codes "arrive " ++ words.now)) (λ e. SpellsEvent names.now.processes (codes "arrive " ++ words.now) e) }
 {
     let Some((sender, receiver)) = split_at_first(words, b' ') else {
         return None;
     };
-    let Some((from, to)) = two_named(system, sender, receiver) else {
+    let Some((from, to)) = two_named(names, sender, receiver) else {
         return None;
     };
     Some(Event::Arrive { from, to })
 }
 
 /// The loss of a line, from the words behind its first one.
-fn read_loss(words: &[u8], system: &System) -> Option<Event>
-    requires named { AreNames (process_names system.now) }
-    requires few { length system.now.processes < 2 ^ 32 }
-    ensures { MatchOption result (IsOfNoEvent (process_names system.now) (codes "lose " ++ words.now)) (λ e. SpellsEvent (process_names system.now) (codes "lose " ++ words.now) e) }
+fn read_loss(words: &[u8], names: &Names) -> Option<Event>
+    requires named { AreNames names.now.processes }
+    requires few { length names.now.processes < 2 ^ 32 }
+    ensures { MatchOption result (IsOfNoEvent names.now.processes (codes "lose " ++ words.now)) (λ e. SpellsEvent names.now.processes (codes "lose " ++ words.now) e) }
 {
     let Some((sender, behind)) = split_at_first(words, b' ') else {
         return None;
@@ -86,7 +87,7 @@ fn read_loss(words: &[u8], system: &System) -> Option<Event>
     let Some((receiver, place)) = split_at_first(behind, b' ') else {
         return None;
     };
-    let Some((from, to)) = two_named(system, sender, receiver) else {
+    let Some((from, to)) = two_named(names, sender, receiver) else {
         return None;
     };
     let Some(place) = read_place(place) else {
@@ -109,15 +110,15 @@ fn read_place(word: &[u8]) -> Option<u32>
 }
 
 /// The numbers of the two processes that have the names; none where they are those of no two different ones.
-fn two_named(system: &System, sender: &[u8], receiver: &[u8]) -> Option<(u32, u32)>
-    requires named { AreNames (process_names system.now) }
-    requires few { length system.now.processes < 2 ^ 32 }
-    ensures { MatchOption result ((q p : ℕ) → AreTwoNames (process_names system.now) q p sender.now receiver.now → ⊥) (λ x. AreTwoNames (process_names system.now) x.0 x.1 sender.now receiver.now) }
+fn two_named(names: &Names, sender: &[u8], receiver: &[u8]) -> Option<(u32, u32)>
+    requires named { AreNames names.now.processes }
+    requires few { length names.now.processes < 2 ^ 32 }
+    ensures { MatchOption result ((q p : ℕ) → AreTwoNames names.now.processes q p sender.now receiver.now → ⊥) (λ x. AreTwoNames names.now.processes x.0 x.1 sender.now receiver.now) }
 {
-    let Some(from) = process_named(system, sender) else {
+    let Some(from) = process_named(names, sender) else {
         return None;
     };
-    let Some(to) = process_named(system, receiver) else {
+    let Some(to) = process_named(names, receiver) else {
         return None;
     };
     if from == to {
@@ -127,25 +128,25 @@ fn two_named(system: &System, sender: &[u8], receiver: &[u8]) -> Option<(u32, u3
 }
 
 /// The number of the first process that has the name; none exactly where none has it.
-fn process_named(system: &System, name: &[u8]) -> Option<u32>
-    requires { length system.now.processes < 2 ^ 32 }
-    ensures { result ≡ position (λ p. bytes_eq p.name name.now) system.now.processes }
+fn process_named(names: &Names, name: &[u8]) -> Option<u32>
+    requires { length names.now.processes < 2 ^ 32 }
+    ensures { result ≡ position (λ n. bytes_eq n name.now) names.now.processes }
 {
-    let place = place_named(system.processes.as_slice(), name)?;
+    let place = place_named(names.processes.as_slice(), name)?;
     Some(place as u32)
 }
 
 /// The place of the first process that has the name; none exactly where none has it.
-fn place_named(processes: &[Process], name: &[u8]) -> Option<usize>
-    ensures place { result ≡ position (λ p. bytes_eq p.name name.now) processes.now }
-    ensures within { IfSome result (λ at. at < length processes.now) }
+fn place_named(names: &[Text], name: &[u8]) -> Option<usize>
+    ensures place { result ≡ position (λ n. bytes_eq n name.now) names.now }
+    ensures within { IfSome result (λ at. at < length names.now) }
 {
-    processes.iter().position(|process| is_named(process, name))
+    names.iter().position(|other| is_named(other, name))
 }
 
-/// Whether a process has the name.
-fn is_named(process: &Process, name: &[u8]) -> bool
-    ensures { result ≡ bytes_eq process.now.name name.now }
+/// Whether a name is the other.
+fn is_named(other: &Text, name: &[u8]) -> bool
+    ensures { result ≡ bytes_eq other.now name.now }
 {
-    process.name.as_str().as_bytes() == name
+    other.as_str().as_bytes() == name
 }

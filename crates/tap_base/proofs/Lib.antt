@@ -1,1 +1,4 @@
-pub mod Weaker
+pub mod ListFacts
+pub mod OptionFacts
+pub mod RangeFacts
+pub mod WordFacts

@@ -3,6 +3,7 @@ use Rattle.std.specs.Prelude.{◌-◌, ◌^◌, ℤ, pos, negsuc, ◌+ℤ◌, �
 use Rattle.std.specs.Int.{int_div_euclid, int_min, int_max}
 use Rattle.std.specs.Option.{option_map}
 use Rattle.tap_base.specs.declared.place.Range.{Range}
+use Rattle.tap_base.specs.declared.wire.WireField.{WireField}
 use Rattle.tap_base.specs.declared.tree.Op.{Op}
 use Rattle.tap_base.specs.declared.tree.Op.TheVariants.{Add, Sub, Mul, Div, Mod, Min, Max}
 use Rattle.tap_base.specs.declared.tree.Expr.{Expr}
@@ -27,6 +28,13 @@ IsWithin a b = (b.lo ≤ℤ a.lo) × (a.hi ≤ℤ b.hi)
 -- a number lies within a range
 abbrev pub IsIn : ℤ → Range → Type 0
 IsIn x a = (a.lo ≤ℤ x) × (x ≤ℤ a.hi)
+
+-- the range of a field: all that its width has room for, or its fixed value alone
+abbrev pub field_range : WireField → Range
+field_range f = range_by f.fixed where
+  range_by : Option ℤ → Range
+  range_by None = from_to (pos 0) (pos (2 ^ f.width) -ℤ pos 1)
+  range_by (Some v) = from_to v v
 
 abbrev pub has_zero : Range → Bool
 has_zero a = int_le a.lo (pos 0) && int_le (pos 0) a.hi

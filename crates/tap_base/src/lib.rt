@@ -1,5 +1,6 @@
 //! Plain types that every other crate speaks of: the tree of a text, the system that it names, what
-//! goes between processes, tokens, and refusals. `specs/` has what a text means on its way to a system.
+//! goes between processes, tokens, and refusals. `specs/` has words on lists, lines of words, ranges and
+//! intervals; `proofs/` has the lemmas on lists, options and ranges that every crate cites.
 #![tactic(auto)]
 
 mod ast;

@@ -1,13 +1,12 @@
 -- Lists that agree up to a place.
-use Rattle.std.proofs.Common.{◌≡◌, ℕ, zero, suc, ◌+◌, ◌<◌, ◌≤◌, refl, sym, ◌∙◌, ap, subst, List, [], ◌∷◌, Option, Some, None, take, drop, length, arith}
+use Rattle.std.proofs.Common.{◌≡◌, ℕ, zero, suc, ◌+◌, ◌<◌, ◌≤◌, refl, sym, ◌∙◌, ap, subst, List, [], ◌∷◌, take, drop, length, arith}
 use Rattle.tap_base.specs.declared.token.Sign.{Sign}
 use Rattle.tap_base.specs.declared.join.Join.{Join}
-use Rattle.tap_base.specs.Lexeme.{Lexeme}
-use Rattle.tap_lexer.specs.Reading.{Stands, Lacks}
-use Rattle.tap_lexer.specs.Reading.{Shows}
-use Rattle.tap_expr.specs.ExprSigns.{Ends, NoRelation}
-use Rattle.tap_expr.specs.ExprReading.{Alike}
-use Rattle.std.proofs.lemmas.List.{drop_more, drop_all, length-drop}
+use Rattle.tap_lexer.specs.Lexeme.{Lexeme}
+use Rattle.tap_lexer.specs.inner.Reading.{Stands, Lacks}
+use Rattle.tap_lexer.specs.inner.Reading.{Shows}
+use Rattle.tap_expr.specs.inner.ExprSigns.{Ends, NoRelation}
+use Rattle.tap_expr.specs.inner.ExprReading.{Alike}
 
 SameHead : List Lexeme → List Lexeme → Type 0
 SameHead [] [] = Unit {0}

@@ -1,19 +1,18 @@
 -- Atoms of several tokens.
-use Rattle.std.proofs.Common.{◌≡◌, refl, sym, ◌∙◌, ap, subst, inl, inr, ◌⊎◌, List, [], ◌∷◌, Option, Some, None, Bool, true, false}
+use Rattle.std.proofs.Common.{◌≡◌, sym, ◌∙◌, ap, subst, inl, inr, List, [], ◌∷◌, Some, true}
 use Rattle.tap_base.specs.declared.ast.AstExpr.{AstExpr}
 use Rattle.tap_base.specs.declared.ast.AstKind.TheVariants as kind
 use Rattle.tap_base.specs.declared.tree.Op.{Op}
 use Rattle.tap_base.specs.declared.token.Sign.{Sign}
 use Rattle.tap_base.specs.declared.token.Sign.TheVariants as sign
-use Rattle.tap_expr.specs.declared.start.Start.{Start}
+use Rattle.tap_lexer.specs.Lexeme.{Lexeme}
+use Rattle.tap_lexer.specs.Leaves.{node}
+use Rattle.tap_lexer.specs.inner.Reading.{Lacks}
 use Rattle.tap_expr.specs.declared.start.Start.TheVariants as start
-use Rattle.tap_base.specs.Lexeme.{Lexeme}
-use Rattle.tap_base.specs.SmallGrammar.{node}
-use Rattle.tap_base.specs.Grammar.{Level, atom, expression, choosing, binary, Reads}
-use Rattle.tap_lexer.specs.Reading.{Lacks}
-use Rattle.tap_expr.specs.ExprSigns.{starting}
-use Rattle.tap_expr.specs.ExprReading.{carries_on, follows_name, Stops, Only, Never}
-use Rattle.tap_expr.proofs.ExprFronts.{IsAtom, AsElement, AsPart, AsChoice, as_atom, starting_choice}
+use Rattle.tap_expr.specs.Grammar.{atom, expression, choosing, binary, Reads}
+use Rattle.tap_expr.specs.inner.ExprSigns.{starting}
+use Rattle.tap_expr.specs.inner.ExprReading.{carries_on, follows_name, Stops, Only, Never}
+use Rattle.tap_expr.proofs.ExprFronts.{IsAtom, AsElement, AsChoice, starting_choice}
 use Rattle.tap_expr.proofs.ExprRules.{lacks, cases}
 
 -- ---- min and max

@@ -1,13 +1,13 @@
 -- The depth of brackets, token by token.
-use Rattle.std.proofs.Common.{◌≡◌, ℕ, zero, suc, ◌+◌, ◌-◌, ◌<◌, ◌≤◌, refl, sym, ◌∙◌, ap, subst, List, [], ◌∷◌, Some, None, Bool, true, false, take, drop, length, option_map, below_more, arith}
+use Rattle.std.proofs.Common.{◌≡◌, ℕ, zero, suc, ◌+◌, ◌-◌, ◌<◌, ◌≤◌, refl, sym, ◌∙◌, ap, List, [], ◌∷◌, Some, Bool, true, false, take, drop, length, option_map, below_more, arith}
 use mir.Val.{bool_byte}
 use Rattle.std.specs.List.{slice_get}
 use Rattle.std.proofs.lemmas.Option.{slice_get-map, slice_get_within}
 use Rattle.std.proofs.lemmas.List.{length-drop}
 use Rattle.tap_base.specs.declared.token.Sign.{Sign}
-use Rattle.tap_base.specs.Lexeme.{Lexeme, lexeme, lexemes}
 use Rattle.tap_base.specs.declared.token.Token.{Token}
-use Rattle.tap_base.specs.Depth.{opens, closes, one_if, count_signs, deepest, OpensAt, IsTooDeep, IsShallow}
+use Rattle.tap_lexer.specs.Lexeme.{Lexeme, lexeme, lexemes}
+use Rattle.tap_lexer.specs.Depth.{opens, closes, one_if, count_signs, deepest, OpensAt, IsTooDeep, IsShallow}
 
 -- one token more counts if its sign passes
 count_more : (test : Sign → Bool) (xs : List Lexeme) (k : ℕ) (x : Lexeme) → slice_get xs k ≡ Some x → count_signs test (take (k + 1) xs) ≡ count_signs test (take k xs) + one_if (test x.sign)

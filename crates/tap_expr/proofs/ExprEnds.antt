@@ -1,17 +1,17 @@
 -- Offences of the tokens of an expression.
-use Rattle.std.proofs.Common.{◌≡◌, ℕ, ◌+◌, ◌<◌, ◌≤◌, min, refl, sym, ◌∙◌, ap, subst, List, [], ◌∷◌, ◌++◌, take, drop, length, arith}
+use Rattle.std.proofs.Common.{◌≡◌, ℕ, ◌+◌, ◌<◌, min, refl, sym, ◌∙◌, ap, subst, List, [], ◌++◌, take, drop, length, arith}
 use Rattle.std.proofs.lemmas.List.{take-append-drop}
 use Rattle.tap_base.specs.declared.place.Place.{Place}
 use Rattle.tap_base.specs.declared.ast.AstExpr.{AstExpr}
 use Rattle.tap_base.specs.declared.refusal.Refusal.{Refusal}
 use Rattle.tap_base.specs.declared.refusal.RefusalCode.TheVariants as code
 use Rattle.tap_base.specs.declared.token.Token.{Token}
-use Rattle.tap_base.specs.Depth.{IsTooDeep, IsShallow}
-use Rattle.tap_base.specs.ExprText.{IsExpr, IsUnspelled, ExprOffence, deep, unspelled, large, refusal, OneFront}
-use Rattle.tap_base.specs.Grammar.{expression, Spells, OneTree}
-use Rattle.tap_base.specs.Lexeme.{Lexeme, lexemes}
-use Rattle.tap_base.specs.Nodes.{nodes, most_nodes}
-use Rattle.tap_base.specs.Places.{place_at}
+use Rattle.tap_lexer.specs.Depth.{IsTooDeep, IsShallow}
+use Rattle.tap_lexer.specs.Lexeme.{Lexeme, lexemes}
+use Rattle.tap_lexer.specs.Places.{place_at}
+use Rattle.tap_expr.specs.ExprText.{IsExpr, IsUnspelled, ExprOffence, deep, unspelled, large, refusal, OneFront}
+use Rattle.tap_expr.specs.Grammar.{expression, Spells, OneTree}
+use Rattle.tap_expr.specs.Nodes.{nodes, most_nodes}
 use Rattle.tap_expr.proofs.ExprOne.{one_reading}
 use Rattle.tap_expr.proofs.ExprStopped.{stopped_place}
 

@@ -1,19 +1,18 @@
 -- What an expression begins with.
-use Rattle.std.proofs.Common.{◌≡◌, refl, sym, ◌∙◌, ap, subst, inl, inr, ◌⊎◌, List, [], ◌∷◌, Option, Some, None, Bool, true, false}
+use Rattle.std.proofs.Common.{◌≡◌, refl, sym, ap, subst, inl, inr, ◌⊎◌, List, [], ◌∷◌, Some, Bool, true, false}
 use Rattle.tap_base.specs.declared.ast.AstExpr.{AstExpr}
 use Rattle.tap_base.specs.declared.ast.AstKind.TheVariants as kind
 use Rattle.tap_base.specs.declared.tree.Op.{Op}
-use Rattle.tap_base.specs.declared.tree.Op.TheVariants as op
 use Rattle.tap_base.specs.declared.token.Sign.{Sign}
 use Rattle.tap_base.specs.declared.token.Sign.TheVariants as sign
 use Rattle.tap_base.specs.declared.join.Join.{Join}
 use Rattle.tap_base.specs.declared.join.Join.TheVariants.{Disjunction, Conjunction, Sum, Term}
+use Rattle.tap_lexer.specs.Lexeme.{Lexeme}
+use Rattle.tap_lexer.specs.Leaves.{node}
 use Rattle.tap_expr.specs.declared.start.Start.{Start}
 use Rattle.tap_expr.specs.declared.start.Start.TheVariants as start
-use Rattle.tap_base.specs.Lexeme.{Lexeme}
-use Rattle.tap_base.specs.SmallGrammar.{node}
-use Rattle.tap_base.specs.Grammar.{Level, joined, negation, relation, factor, atom, expression, joining, relating, choosing, part_of, binary, Reads, Goes, done, more, chain, plain, denied, single, related, positive, negative, number, truth, untruth, name, element, part, chosen, group}
-use Rattle.tap_expr.specs.ExprSigns.{starting}
+use Rattle.tap_expr.specs.Grammar.{Level, joined, negation, relation, factor, atom, expression, choosing, part_of, binary, Reads, chain, plain, denied, single, related, positive, negative, leaf, number, truth, untruth, name, element, part, chosen, group}
+use Rattle.tap_expr.specs.inner.ExprSigns.{starting}
 
 -- whether no expression of the level begins with the sign
 bars : Level → Sign → Bool
@@ -78,12 +77,12 @@ front (single {ts} r) = front_relation ts (front r)
 front (related {x} {ts} r e q) = front_relation ts (front r)
 front (positive {ts} r) = front_factor ts (front r)
 front (negative e r) = ap (bars factor) e
-front (number e) = ap (bars atom) e
-front (truth e) = ap (bars atom) e
-front (untruth e) = ap (bars atom) e
-front (name e) = ap (bars atom) e
+front (leaf (number e)) = ap (bars atom) e
+front (leaf (truth e)) = ap (bars atom) e
+front (leaf (untruth e)) = ap (bars atom) e
+front (leaf (name e)) = ap (bars atom) e
 front (element e f r g) = ap (bars atom) e
-front (part e f g) = ap (bars atom) e
+front (leaf (part e f g)) = ap (bars atom) e
 front (chosen {x} {o} e f r g q h) = choosing_bars x.sign o e
 front (group e r f) = ap (bars atom) e
 
@@ -158,11 +157,11 @@ by_start : (s : Start) (x : Lexeme) (ts : List Lexeme) (d : AstExpr) (ws : List 
 by_start s x ts d ws e h = subst (λ v. IsAtom v x ts d ws) (sym e) h
 
 pub as_atom : {d : AstExpr} {x : Lexeme} {ts ws : List Lexeme} → Reads atom d (x ∷ ts) ws → IsAtom (starting x.sign) x ts d ws
-as_atom (number {x} {ts} e) = by_start start.Number x ts _ ts (ap starting e) (refl, refl)
-as_atom (truth {x} {ts} e) = by_start (start.Truth true) x ts _ ts (ap starting e) (refl, refl)
-as_atom (untruth {x} {ts} e) = by_start (start.Truth false) x ts _ ts (ap starting e) (refl, refl)
-as_atom (name {x} {ts} e) = by_start start.Name x ts _ ts (ap starting e) (inl (refl, refl))
+as_atom (leaf (number {x} {ts} e)) = by_start start.Number x ts _ ts (ap starting e) (refl, refl)
+as_atom (leaf (truth {x} {ts} e)) = by_start (start.Truth true) x ts _ ts (ap starting e) (refl, refl)
+as_atom (leaf (untruth {x} {ts} e)) = by_start (start.Truth false) x ts _ ts (ap starting e) (refl, refl)
+as_atom (leaf (name {x} {ts} e)) = by_start start.Name x ts _ ts (ap starting e) (inl (refl, refl))
 as_atom (element {x} {y} {z} {e} {ts} {us} g f r h) = by_start start.Name x (y ∷ ts) _ us (ap starting g) (inr (inl (record { y = y; z = z; e = e; us = ts; begins = refl; opens = f; index = r; closes = h; is = refl })))
-as_atom (part {x} {y} {z} {ts} e f g) = by_start start.Name x (y ∷ z ∷ ts) _ ts (ap starting e) (inr (inr (record { y = y; z = z; begins = refl; dot = f; field = g; is = refl })))
+as_atom (leaf (part {x} {y} {z} {ts} e f g)) = by_start start.Name x (y ∷ z ∷ ts) _ ts (ap starting e) (inr (inr (record { y = y; z = z; begins = refl; dot = f; field = g; is = refl })))
 as_atom (chosen {x} {y} {z} {w} {o} {a} {b} {ts} {us} {ws} e f r g q h) = by_start (start.Choice o) x (y ∷ ts) _ ws (starting_choice x.sign o e) (record { y = y; z = z; w = w; a = a; b = b; us = ts; vs = us; begins = refl; opens = f; left = r; comma = g; right = q; closes = h; is = refl })
 as_atom (group {x} {z} {e} {ts} {us} f r g) = by_start start.Group x ts e us (ap starting f) (record { z = z; inner = r; closes = g })

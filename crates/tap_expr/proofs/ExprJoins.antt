@@ -1,12 +1,13 @@
 -- Parts that are joined: what a loop over them keeps.
-use Rattle.std.proofs.Common.{◌≡◌, refl, sym, ◌∙◌, ap, subst, List, [], ◌∷◌, Option, Some, None, Bool, true, false, ℕ, ◌≤◌, length, drop}
+use Rattle.std.proofs.Common.{◌≡◌, refl, sym, ◌∙◌, ap, subst, List, ◌∷◌, Some, true, ℕ, ◌≤◌, length, drop}
+use Rattle.std.proofs.lemmas.Option.{same_Some}
 use Rattle.tap_base.specs.declared.ast.AstExpr.{AstExpr}
 use Rattle.tap_base.specs.declared.tree.Op.{Op}
 use Rattle.tap_base.specs.declared.join.Join.{Join}
-use Rattle.tap_base.specs.Lexeme.{Lexeme}
-use Rattle.tap_base.specs.Grammar.{Level, joined, joining, part_of, binary, Reads, Goes, done, more, chain}
-use Rattle.tap_expr.specs.ExprSigns.{Ends}
-use Rattle.tap_expr.specs.ExprReading.{carries_on, Stops, Only, Never}
+use Rattle.tap_lexer.specs.Lexeme.{Lexeme}
+use Rattle.tap_expr.specs.Grammar.{joined, joining, part_of, binary, Reads, Goes, done, more, chain}
+use Rattle.tap_expr.specs.inner.ExprSigns.{Ends}
+use Rattle.tap_expr.specs.inner.ExprReading.{carries_on, Stops, Only, Never}
 use Rattle.tap_expr.proofs.ExprStops.{goes_stops, joining_carries}
 
 -- what goes on from a completes the joined parts at ts
@@ -32,15 +33,12 @@ never_first j ts never e us (chain {a = b} {us = ns} r g) h = never b ns r (goes
 pub sound_more : (j : Join) (o : Op) (x : Lexeme) (ts ms ns : List Lexeme) (a b : AstExpr) → joining j x.sign ≡ Some o → Reads (part_of j) b ms ns → Sound j ts a (x ∷ ms) → Sound j ts (binary o a b x.place) ns
 sound_more j o x ts ms ns a b e r sound d us g = sound d us (more e r g)
 
-same_op : (o p : Op) → Some o ≡ Some p → o ≡ p
-same_op o p e = cc
-
 -- the next part of what goes on
 next : (j : Join) (o : Op) (x : Lexeme) (ms ns : List Lexeme) (a b d : AstExpr) (us : List Lexeme) → joining j x.sign ≡ Some o → Only (part_of j) ms b ns → Goes j a d (x ∷ ms) us → Stops (joined j) us → Goes j (binary o a b x.place) d ns us
 next j o x ms ns a b d us e only done h = let c : carries_on (joined j) x.sign ≡ true = joining_carries j x.sign o e in absurd cc
 next j o x ms ns a b d us e only (more {o = p} {b = c} {us = ks} f r g) h =
     let w = only c ks r (goes_stops g h) in
-    along (binary p a c x.place) (binary o a b x.place) ks ns (ap (λ q. binary q a c x.place) (same_op p o (sym f ∙ e)) ∙ ap (λ q. binary o a q x.place) w.0) w.1 g
+    along (binary p a c x.place) (binary o a b x.place) ks ns (ap (λ q. binary q a c x.place) (same_Some p o (sym f ∙ e)) ∙ ap (λ q. binary o a q x.place) w.0) w.1 g
 
 pub whole_more : (j : Join) (o : Op) (x : Lexeme) (ts ms ns : List Lexeme) (a b : AstExpr) → joining j x.sign ≡ Some o → Only (part_of j) ms b ns → Whole j ts a (x ∷ ms) → Whole j ts (binary o a b x.place) ns
 whole_more j o x ts ms ns a b e only whole d us r h = next j o x ms ns a b d us e only (whole d us r h) h

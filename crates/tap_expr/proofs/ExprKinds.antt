@@ -1,27 +1,26 @@
 -- What is answered of atoms, from what is answered of their parts.
-use Rattle.std.proofs.Common.{◌≡◌, ℕ, ◌+◌, ◌<◌, ◌≤◌, refl, sym, ◌∙◌, ap, subst, List, [], ◌∷◌, Some, Result, Ok, Err, IsErrAnd, Bool, drop, length, arith, rules}
+use Rattle.std.proofs.Common.{◌≡◌, ℕ, ◌+◌, refl, sym, ◌∙◌, ap, subst, List, Some, Result, Ok, Err, IsErrAnd, Bool, drop, arith, rules}
 use Rattle.std.specs.Prelude.{ℤ}
 use Rattle.tap_base.specs.declared.place.Place.{Place}
-use Rattle.tap_base.specs.declared.ast.AstExpr.{AstExpr}
 use Rattle.tap_base.specs.declared.ast.AstKind.{AstKind}
 use Rattle.tap_base.specs.declared.ast.AstKind.{the_lemmas}
 use Rattle.tap_base.specs.declared.ast.AstKind.TheVariants as kind
 use Rattle.tap_base.specs.declared.token.Sign.TheVariants as sign
 use Rattle.tap_base.specs.declared.tree.Op.{Op}
-use Rattle.tap_base.specs.Lexeme.{Lexeme}
-use Rattle.tap_base.specs.SmallGrammar.{node}
-use Rattle.tap_base.specs.Grammar.{Level, atom, expression, choosing, binary}
+use Rattle.tap_lexer.specs.Lexeme.{Lexeme}
+use Rattle.tap_lexer.specs.Leaves.{node}
 use Rattle.tap_lexer.specs.declared.found.Found.{Found}
+use Rattle.tap_lexer.specs.inner.Reading.{Stands, Lacks}
+use Rattle.tap_lexer.specs.inner.Reading.{Shows}
+use Rattle.tap_expr.specs.Grammar.{atom, expression, choosing, binary}
 use Rattle.tap_expr.specs.declared.found.Built.{Built}
 use Rattle.tap_expr.specs.declared.found.Built.TheVariants as built
 use Rattle.tap_expr.specs.declared.found.Stuck.{Stuck}
 use Rattle.tap_expr.specs.declared.found.Stuck.TheVariants as stuck
 use Rattle.tap_expr.specs.declared.start.Start.TheVariants as start
-use Rattle.tap_lexer.specs.Reading.{Stands, Lacks}
-use Rattle.tap_lexer.specs.Reading.{Shows}
-use Rattle.tap_expr.specs.ExprSigns.{starting}
-use Rattle.tap_expr.specs.ExprReading.{Never, IsBuilt, Alike, Answers}
-use Rattle.tap_expr.specs.ExprNodes.{OfOne, OfTwo}
+use Rattle.tap_expr.specs.inner.ExprSigns.{starting}
+use Rattle.tap_expr.specs.inner.ExprReading.{IsBuilt, Answers}
+use Rattle.tap_expr.specs.inner.ExprNodes.{OfOne, OfTwo}
 use Rattle.tap_expr.proofs.ExprAlike.{less, stands_as, shows_as, lacks_at}
 use Rattle.tap_expr.proofs.ExprLevels.{passes}
 use Rattle.tap_expr.proofs.ExprOutcomes.{atom_refused, number_found, truth_found, group_found, group_refused, group_unclosed, choice_refused_open, choice_refused_left, choice_refused_comma, choice_refused_right, choice_refused_close, choice_found, name_found, part_refused, part_found, element_refused, element_unclosed, element_found}

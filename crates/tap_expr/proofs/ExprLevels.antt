@@ -1,23 +1,23 @@
 -- What is answered above atoms, from what is answered of the parts.
-use Rattle.std.proofs.Common.{◌≡◌, ℕ, ◌+◌, ◌<◌, ◌≤◌, refl, sym, ◌∙◌, ap, subst, List, [], ◌∷◌, Some, Result, Ok, Err, IsErrAnd, drop, length, arith}
+use Rattle.std.proofs.Common.{◌≡◌, ℕ, ◌+◌, ◌<◌, ◌≤◌, refl, sym, subst, List, [], ◌∷◌, Some, Result, Ok, Err, IsErrAnd, drop, arith}
 use Rattle.tap_base.specs.declared.ast.AstExpr.{AstExpr}
 use Rattle.tap_base.specs.declared.ast.AstKind.TheVariants as kind
 use Rattle.tap_base.specs.declared.join.Join.{Join}
 use Rattle.tap_base.specs.declared.join.Join.TheVariants.{Sum}
 use Rattle.tap_base.specs.declared.token.Sign.TheVariants as sign
 use Rattle.tap_base.specs.declared.tree.Op.{Op}
-use Rattle.tap_base.specs.Lexeme.{Lexeme}
-use Rattle.tap_base.specs.SmallGrammar.{node}
-use Rattle.tap_base.specs.Grammar.{Level, joined, part_of, negation, relation, factor, atom, joining, relating, binary}
+use Rattle.tap_lexer.specs.Lexeme.{Lexeme}
+use Rattle.tap_lexer.specs.Leaves.{node}
 use Rattle.tap_lexer.specs.declared.found.Found.{Found}
+use Rattle.tap_lexer.specs.inner.Reading.{Stands, Lacks}
+use Rattle.tap_lexer.specs.inner.Reading.{Shows}
+use Rattle.tap_expr.specs.Grammar.{Level, joined, part_of, negation, relation, factor, atom, joining, relating, binary}
 use Rattle.tap_expr.specs.declared.found.Built.{Built}
 use Rattle.tap_expr.specs.declared.found.Stuck.{Stuck}
 use Rattle.tap_expr.specs.declared.found.Stuck.TheVariants as stuck
-use Rattle.tap_lexer.specs.Reading.{Stands, Lacks}
-use Rattle.tap_lexer.specs.Reading.{Shows}
-use Rattle.tap_expr.specs.ExprSigns.{Ends, NoRelation}
-use Rattle.tap_expr.specs.ExprReading.{Never, IsBuilt, Alike, Answers}
-use Rattle.tap_expr.specs.ExprNodes.{OfOne, OfTwo}
+use Rattle.tap_expr.specs.inner.ExprSigns.{Ends, NoRelation}
+use Rattle.tap_expr.specs.inner.ExprReading.{Never, IsBuilt, Alike, Answers}
+use Rattle.tap_expr.specs.inner.ExprNodes.{OfOne, OfTwo}
 use Rattle.tap_expr.proofs.ExprAlike.{less, stands_as, shows_as, lacks_at, ends_at, unrelated_at, empty_at}
 use Rattle.tap_expr.proofs.ExprJoins.{Sound, Whole, Kept, sound_first, whole_first, never_first, sound_more, whole_more, never_more, sound_last, only_last}
 use Rattle.tap_expr.proofs.ExprRules.{single_never}

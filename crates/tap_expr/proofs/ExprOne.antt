@@ -1,18 +1,16 @@
 -- A reading that nothing carries on is the only one.
-use Rattle.std.proofs.Common.{◌≡◌, refl, sym, ◌∙◌, ap, subst, List, [], ◌∷◌, Option, Some, None, Bool, true, false}
+use Rattle.std.proofs.Common.{◌≡◌, refl, ◌∙◌, ap, List, [], ◌∷◌, Option, Some, None, true, false}
 use Rattle.tap_base.specs.declared.ast.AstExpr.{AstExpr}
 use Rattle.tap_base.specs.declared.tree.Op.{Op}
 use Rattle.tap_base.specs.declared.token.Sign.{Sign}
 use Rattle.tap_base.specs.declared.token.Sign.TheVariants as sign
 use Rattle.tap_base.specs.declared.join.Join.{Join}
-use Rattle.tap_base.specs.declared.join.Join.TheVariants.{Disjunction, Conjunction, Sum, Term}
-use Rattle.tap_expr.specs.declared.start.Start.TheVariants as start
-use Rattle.tap_base.specs.Lexeme.{Lexeme}
-use Rattle.tap_base.specs.Grammar.{Level, joined, negation, relation, factor, atom, expression, part_of, joining, relating, binary, Reads, Goes, done, more, chain, plain, denied, single, related, positive, negative, number, truth, untruth, name, element, part, chosen, group}
-use Rattle.tap_lexer.specs.Reading.{Lacks}
-use Rattle.tap_expr.specs.ExprSigns.{Ends, NoRelation, starting}
-use Rattle.tap_expr.specs.ExprReading.{carries_on, follows_name, Stops, Only, OneReading}
-use Rattle.tap_expr.proofs.ExprStops.{goes_stops, stops_sum, stops_relation, stops_atom, relating_stops, relating_carries, joining_carries, joining_stops}
+use Rattle.tap_lexer.specs.Lexeme.{Lexeme}
+use Rattle.tap_lexer.specs.inner.Reading.{Lacks}
+use Rattle.tap_expr.specs.Grammar.{Level, joined, negation, relation, factor, atom, expression, joining, relating, Reads, Goes, done, more, chain, plain, denied, single, related, positive, negative, leaf, number, truth, untruth, name, element, part, chosen, group}
+use Rattle.tap_expr.specs.inner.ExprSigns.{Ends, NoRelation, starting}
+use Rattle.tap_expr.specs.inner.ExprReading.{carries_on, follows_name, Stops, Only, OneReading}
+use Rattle.tap_expr.proofs.ExprStops.{goes_stops, stops_sum, stops_relation, stops_atom, relating_stops, relating_carries, joining_carries}
 use Rattle.tap_expr.proofs.ExprFronts.{not_denied, not_negative, no_front}
 use Rattle.tap_expr.proofs.ExprJoins.{Whole, whole_first, whole_more, only_last}
 use Rattle.tap_expr.proofs.ExprRules.{denied_only, plain_only, negative_only, positive_only, single_only, related_only, number_only, truth_only, group_only}
@@ -58,8 +56,9 @@ unfolding carries_on
 lacks_dot [] h = tt
 lacks_dot (x ∷ us) h = λ e. let c : follows_name x.sign ≡ true = ap follows_name e in absurd cc
 
-closes : (s : Sign) (z : Lexeme) (us : List Lexeme) → carries_on expression s ≡ false → z.sign ≡ s → Stops expression (z ∷ us)
-closes s z us c e = ap (carries_on expression) e ∙ c
+-- where the sign can't carry an expression on, the expression stops before it
+pub stops_before : (s : Sign) (z : Lexeme) (us : List Lexeme) → carries_on expression s ≡ false → z.sign ≡ s → Stops expression (z ∷ us)
+stops_before s z us c e = ap (carries_on expression) e ∙ c
 
 mutual
   unfolding carries_on
@@ -72,14 +71,14 @@ mutual
   one (related {a} {b} {x} {o} {ts} {us} {ws} r i q) h = related_only ts us ws x o a b i (one r (relating_stops x.sign o i)) (one q (stops_sum ws h))
   one (positive {e} {ts} {us} r) h = positive_one ts us e r (one r (stops_atom us h))
   one (negative {e} {x} {ts} {us} i r) h = negative_only x ts us e i (one r (stops_atom us h))
-  one (number {x} {ts} i) h = number_only x ts (ap starting i)
-  one (truth {x} {ts} i) h = truth_only x ts true (ap starting i)
-  one (untruth {x} {ts} i) h = truth_only x ts false (ap starting i)
-  one (name {x} {ts} i) h = name_only x i ts (lacks_index ts h) (lacks_dot ts h)
-  one (element {x} {y} {z} {e} {ts} {us} i o r c) h = element_only x i y z ts us e o (one r (closes sign.CloseIndex z us refl c))
-  one (part {x} {y} {z} {ts} i o c) h = part_only x i y z ts o
-  one (chosen {x} {y} {z} {w} {o} {a} {b} {ts} {us} {ws} i p r c q d) h = choice_only x o i y z w ts us ws a b (one r (closes sign.Comma z us refl c)) (one q (closes sign.Close w ws refl d))
-  one (group {x} {z} {e} {ts} {us} i r c) h = group_only x z ts us e i c (one r (closes sign.Close z us refl c))
+  one (leaf (number {x} {ts} i)) h = number_only x ts (ap starting i)
+  one (leaf (truth {x} {ts} i)) h = truth_only x ts true (ap starting i)
+  one (leaf (untruth {x} {ts} i)) h = truth_only x ts false (ap starting i)
+  one (leaf (name {x} {ts} i)) h = name_only x i ts (lacks_index ts h) (lacks_dot ts h)
+  one (element {x} {y} {z} {e} {ts} {us} i o r c) h = element_only x i y z ts us e o (one r (stops_before sign.CloseIndex z us refl c))
+  one (leaf (part {x} {y} {z} {ts} i o c)) h = part_only x i y z ts o
+  one (chosen {x} {y} {z} {w} {o} {a} {b} {ts} {us} {ws} i p r c q d) h = choice_only x o i y z w ts us ws a b (one r (stops_before sign.Comma z us refl c)) (one q (stops_before sign.Close w ws refl d))
+  one (group {x} {z} {e} {ts} {us} i r c) h = group_only x z ts us e i c (one r (stops_before sign.Close z us refl c))
 
   on : {j : Join} {a e : AstExpr} {ms us : List Lexeme} → Goes j a e ms us → Stops (joined j) us → (ts : List Lexeme) → Whole j ts a ms → Only (joined j) ts e us
   on (done {j} {a} {ts = ms}) h ts whole = only_last j ts ms a (stops_ends j ms h) whole

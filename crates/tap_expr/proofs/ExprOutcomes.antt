@@ -1,21 +1,21 @@
 -- From what is read at places to what a function answers.
-use Rattle.std.proofs.Common.{◌≡◌, ℕ, ◌+◌, ◌<◌, ◌≤◌, refl, sym, ◌∙◌, ap, subst, List, [], ◌∷◌, Option, Some, None, Bool, true, false, drop, length, arith}
+use Rattle.std.proofs.Common.{◌≡◌, ℕ, ◌+◌, ◌<◌, ◌≤◌, refl, sym, ◌∙◌, ap, subst, List, [], ◌∷◌, Some, Bool, true, false, drop, length, arith}
 use Rattle.tap_base.specs.declared.ast.AstExpr.{AstExpr}
 use Rattle.tap_base.specs.declared.ast.AstKind.TheVariants as kind
 use Rattle.tap_base.specs.declared.tree.Op.{Op}
 use Rattle.tap_base.specs.declared.token.Sign.{Sign}
 use Rattle.tap_base.specs.declared.token.Sign.TheVariants as sign
-use Rattle.tap_base.specs.declared.join.Join.{Join}
-use Rattle.tap_base.specs.declared.join.Join.TheVariants.{Disjunction, Conjunction, Sum, Term}
+use Rattle.tap_base.specs.declared.join.Join.TheVariants.{Sum}
+use Rattle.tap_lexer.specs.Lexeme.{Lexeme}
+use Rattle.tap_lexer.specs.Leaves.{node}
+use Rattle.tap_lexer.specs.inner.Reading.{Stands, Lacks}
+use Rattle.tap_lexer.specs.inner.Reading.{Shows}
+use Rattle.tap_lexer.proofs.InARow.{two, three}
 use Rattle.tap_expr.specs.declared.start.Start.TheVariants as start
-use Rattle.tap_base.specs.Lexeme.{Lexeme}
-use Rattle.tap_base.specs.SmallGrammar.{node}
-use Rattle.tap_base.specs.Grammar.{Level, joined, part_of, negation, relation, factor, atom, expression, joining, relating, choosing, binary, Reads, plain, denied, single, related, positive, negative, number, truth, untruth, name, element, part, chosen, group}
-use Rattle.tap_lexer.specs.Reading.{Stands, Lacks}
-use Rattle.tap_lexer.specs.Reading.{Shows}
-use Rattle.tap_expr.specs.ExprSigns.{Ends, NoRelation, starting}
-use Rattle.tap_expr.specs.ExprReading.{Only, Never, IsFound}
-use Rattle.tap_expr.proofs.ExprRules.{denied_only, denied_never, plain_only, plain_never, negative_only, negative_never, positive_only, positive_never, single_only, single_never, related_only, related_never, never_nothing, never_atom, number_only, truth_only, group_only, group_never, group_open}
+use Rattle.tap_expr.specs.Grammar.{Level, joined, negation, relation, factor, atom, expression, relating, choosing, binary, Reads, plain, denied, single, related, positive, negative, leaf, number, truth, untruth, name, element, part, chosen, group}
+use Rattle.tap_expr.specs.inner.ExprSigns.{NoRelation, starting}
+use Rattle.tap_expr.specs.inner.ExprReading.{Only, Never, IsFound}
+use Rattle.tap_expr.proofs.ExprRules.{denied_only, denied_never, plain_only, plain_never, negative_only, negative_never, positive_only, positive_never, single_only, related_only, related_never, never_nothing, never_atom, number_only, truth_only, group_only, group_never, group_open}
 use Rattle.tap_expr.proofs.ExprAtoms.{choice_unopened, choice_never, choice_no_comma, choice_never_right, choice_unclosed, choice_only, name_only, part_never, part_only, element_never, element_open, element_only}
 
 never_at : (l : Level) (xs ts : List Lexeme) (at : ℕ) → drop at xs ≡ ts → Never l ts → Never l (drop at xs)
@@ -113,7 +113,7 @@ module _ (xs : List Lexeme) (at : ℕ) where
   starts_number _ e = cc
 
   pub number_found : (x : Lexeme) → Stands xs at x → starting x.sign ≡ start.Number → IsFound atom xs at (at + 1) (node (kind.Number x.value) x.place)
-  number_found x w is = build atom xs at (at + 1) (node (kind.Number x.value) x.place) (x ∷ drop (at + 1) xs) (drop (at + 1) xs) w.cut refl (let q = w.below in omega arith) (omega arith) (number (starts_number x.sign is)) (number_only x (drop (at + 1) xs) is)
+  number_found x w is = build atom xs at (at + 1) (node (kind.Number x.value) x.place) (x ∷ drop (at + 1) xs) (drop (at + 1) xs) w.cut refl (let q = w.below in omega arith) (omega arith) (leaf (number (starts_number x.sign is))) (number_only x (drop (at + 1) xs) is)
 
   starts_truth : (s : Sign) → starting s ≡ start.Truth true → s ≡ sign.True
   starts_truth sign.True e = refl
@@ -124,8 +124,8 @@ module _ (xs : List Lexeme) (at : ℕ) where
   starts_untruth _ e = cc
 
   pub truth_found : (x : Lexeme) (b : Bool) → Stands xs at x → starting x.sign ≡ start.Truth b → IsFound atom xs at (at + 1) (node (kind.Truth b) x.place)
-  truth_found x true w is = build atom xs at (at + 1) (node (kind.Truth true) x.place) (x ∷ drop (at + 1) xs) (drop (at + 1) xs) w.cut refl (let q = w.below in omega arith) (omega arith) (truth (starts_truth x.sign is)) (truth_only x (drop (at + 1) xs) true is)
-  truth_found x false w is = build atom xs at (at + 1) (node (kind.Truth false) x.place) (x ∷ drop (at + 1) xs) (drop (at + 1) xs) w.cut refl (let q = w.below in omega arith) (omega arith) (untruth (starts_untruth x.sign is)) (truth_only x (drop (at + 1) xs) false is)
+  truth_found x true w is = build atom xs at (at + 1) (node (kind.Truth true) x.place) (x ∷ drop (at + 1) xs) (drop (at + 1) xs) w.cut refl (let q = w.below in omega arith) (omega arith) (leaf (truth (starts_truth x.sign is))) (truth_only x (drop (at + 1) xs) true is)
+  truth_found x false w is = build atom xs at (at + 1) (node (kind.Truth false) x.place) (x ∷ drop (at + 1) xs) (drop (at + 1) xs) w.cut refl (let q = w.below in omega arith) (omega arith) (leaf (untruth (starts_untruth x.sign is))) (truth_only x (drop (at + 1) xs) false is)
 
   pub group_found : (x : Lexeme) (m : ℕ) (a : AstExpr) → Stands xs at x → x.sign ≡ sign.Open → IsFound expression xs (at + 1) m a → Shows sign.Close xs m → IsFound atom xs at (m + 1) a
   group_found x m a w is h z =
@@ -139,33 +139,29 @@ module _ (xs : List Lexeme) (at : ℕ) where
   pub group_unclosed : (x : Lexeme) (m : ℕ) (a : AstExpr) → Stands xs at x → x.sign ≡ sign.Open → IsFound expression xs (at + 1) m a → Lacks sign.Close (drop m xs) → Never atom (drop at xs)
   group_unclosed x m a w is h lack = never_at atom xs (x ∷ drop (at + 1) xs) at w.cut (group_open x (drop (at + 1) xs) (drop m xs) a is lack h.only)
 
-  -- two tokens in a row
-  two : (x y : Lexeme) → Stands xs at x → Stands xs (at + 1) y → drop at xs ≡ x ∷ y ∷ drop (at + 2) xs
-  two x y v w = let e : (at + 1) + 1 ≡ at + 2 = omega arith in v.cut ∙ ap (λ k. x ∷ k) w.cut ∙ ap (λ n. x ∷ y ∷ drop n xs) e
-
   -- ---- min and max
 
   pub choice_refused_open : (x : Lexeme) (o : Op) → Stands xs at x → choosing x.sign ≡ Some o → Lacks sign.Open (drop (at + 1) xs) → Never atom (drop at xs)
   choice_refused_open x o w is lack = never_at atom xs (x ∷ drop (at + 1) xs) at w.cut (choice_unopened x o is (drop (at + 1) xs) lack)
 
   pub choice_refused_left : (x : Lexeme) (o : Op) → Stands xs at x → choosing x.sign ≡ Some o → Shows sign.Open xs (at + 1) → Never expression (drop (at + 2) xs) → Never atom (drop at xs)
-  choice_refused_left x o w is y h = never_at atom xs (x ∷ y.x ∷ drop (at + 2) xs) at (two x y.x w y.stands) (choice_never x o is y.x (drop (at + 2) xs) h)
+  choice_refused_left x o w is y h = never_at atom xs (x ∷ y.x ∷ drop (at + 2) xs) at (two xs at x y.x w y.stands) (choice_never x o is y.x (drop (at + 2) xs) h)
 
   pub choice_refused_comma : (x : Lexeme) (o : Op) (m : ℕ) (a : AstExpr) → Stands xs at x → choosing x.sign ≡ Some o → Shows sign.Open xs (at + 1) → IsFound expression xs (at + 2) m a → Lacks sign.Comma (drop m xs) → Never atom (drop at xs)
-  choice_refused_comma x o m a w is y h lack = never_at atom xs (x ∷ y.x ∷ drop (at + 2) xs) at (two x y.x w y.stands) (choice_no_comma x o is y.x (drop (at + 2) xs) (drop m xs) a h.only lack)
+  choice_refused_comma x o m a w is y h lack = never_at atom xs (x ∷ y.x ∷ drop (at + 2) xs) at (two xs at x y.x w y.stands) (choice_no_comma x o is y.x (drop (at + 2) xs) (drop m xs) a h.only lack)
 
   left_only : (m : ℕ) (a : AstExpr) (z : Lexeme) → IsFound expression xs (at + 2) m a → Stands xs m z → Only expression (drop (at + 2) xs) a (z ∷ drop (m + 1) xs)
   left_only m a z h w = at_only expression a (drop (at + 2) xs) (drop (at + 2) xs) (drop m xs) (z ∷ drop (m + 1) xs) refl w.cut h.only
 
   pub choice_refused_right : (x : Lexeme) (o : Op) (m : ℕ) (a : AstExpr) → Stands xs at x → choosing x.sign ≡ Some o → Shows sign.Open xs (at + 1) → IsFound expression xs (at + 2) m a → Shows sign.Comma xs m → Never expression (drop (m + 1) xs) → Never atom (drop at xs)
-  choice_refused_right x o m a w is y h z never = never_at atom xs (x ∷ y.x ∷ drop (at + 2) xs) at (two x y.x w y.stands) (choice_never_right x o is y.x z.x (drop (at + 2) xs) (drop (m + 1) xs) a (left_only m a z.x h z.stands) never)
+  choice_refused_right x o m a w is y h z never = never_at atom xs (x ∷ y.x ∷ drop (at + 2) xs) at (two xs at x y.x w y.stands) (choice_never_right x o is y.x z.x (drop (at + 2) xs) (drop (m + 1) xs) a (left_only m a z.x h z.stands) never)
 
   pub choice_refused_close : (x : Lexeme) (o : Op) (m : ℕ) (a : AstExpr) (n : ℕ) (b : AstExpr) → Stands xs at x → choosing x.sign ≡ Some o → Shows sign.Open xs (at + 1) → IsFound expression xs (at + 2) m a → Shows sign.Comma xs m → IsFound expression xs (m + 1) n b → Lacks sign.Close (drop n xs) → Never atom (drop at xs)
-  choice_refused_close x o m a n b w is y h z k lack = never_at atom xs (x ∷ y.x ∷ drop (at + 2) xs) at (two x y.x w y.stands) (choice_unclosed x o is y.x z.x (drop (at + 2) xs) (drop (m + 1) xs) (drop n xs) a b (left_only m a z.x h z.stands) k.only lack)
+  choice_refused_close x o m a n b w is y h z k lack = never_at atom xs (x ∷ y.x ∷ drop (at + 2) xs) at (two xs at x y.x w y.stands) (choice_unclosed x o is y.x z.x (drop (at + 2) xs) (drop (m + 1) xs) (drop n xs) a b (left_only m a z.x h z.stands) k.only lack)
 
   pub choice_found : (x : Lexeme) (o : Op) (m : ℕ) (a : AstExpr) (n : ℕ) (b : AstExpr) → Stands xs at x → choosing x.sign ≡ Some o → Shows sign.Open xs (at + 1) → IsFound expression xs (at + 2) m a → Shows sign.Comma xs m → IsFound expression xs (m + 1) n b → Shows sign.Close xs n → IsFound atom xs at (n + 1) (binary o a b x.place)
   choice_found x o m a n b w is y h z k v =
-      build atom xs at (n + 1) (binary o a b x.place) (x ∷ y.x ∷ drop (at + 2) xs) (drop (n + 1) xs) (two x y.x w y.stands) refl (let q = v.stands.below in omega arith) (let q = h.further in let r = k.further in omega arith)
+      build atom xs at (n + 1) (binary o a b x.place) (x ∷ y.x ∷ drop (at + 2) xs) (drop (n + 1) xs) (two xs at x y.x w y.stands) refl (let q = v.stands.below in omega arith) (let q = h.further in let r = k.further in omega arith)
       (chosen is y.is (at_reads expression a (drop (at + 2) xs) (drop (at + 2) xs) (drop m xs) (z.x ∷ drop (m + 1) xs) refl z.stands.cut h.spelled) z.is (at_reads expression b (drop (m + 1) xs) (drop (m + 1) xs) (drop n xs) (v.x ∷ drop (n + 1) xs) refl v.stands.cut k.spelled) v.is)
       (choice_only x o is y.x z.x v.x (drop (at + 2) xs) (drop (m + 1) xs) (drop (n + 1) xs) a b (left_only m a z.x h z.stands) (at_only expression b (drop (m + 1) xs) (drop (m + 1) xs) (drop n xs) (v.x ∷ drop (n + 1) xs) refl v.stands.cut k.only))
 
@@ -173,27 +169,24 @@ module _ (xs : List Lexeme) (at : ℕ) where
 
   pub name_found : (x : Lexeme) → Stands xs at x → x.sign ≡ sign.Name → Lacks sign.OpenIndex (drop (at + 1) xs) → Lacks sign.Dot (drop (at + 1) xs) → IsFound atom xs at (at + 1) (node (kind.Name x.text) x.place)
   name_found x w is no_index no_dot =
-      build atom xs at (at + 1) (node (kind.Name x.text) x.place) (x ∷ drop (at + 1) xs) (drop (at + 1) xs) w.cut refl (let q = w.below in omega arith) (omega arith) (name is) (name_only x is (drop (at + 1) xs) no_index no_dot)
+      build atom xs at (at + 1) (node (kind.Name x.text) x.place) (x ∷ drop (at + 1) xs) (drop (at + 1) xs) w.cut refl (let q = w.below in omega arith) (omega arith) (leaf (name is)) (name_only x is (drop (at + 1) xs) no_index no_dot)
 
   pub part_refused : (x : Lexeme) → Stands xs at x → x.sign ≡ sign.Name → Shows sign.Dot xs (at + 1) → Lacks sign.Name (drop (at + 2) xs) → Never atom (drop at xs)
-  part_refused x w is y lack = never_at atom xs (x ∷ y.x ∷ drop (at + 2) xs) at (two x y.x w y.stands) (part_never x is y.x (drop (at + 2) xs) y.is lack)
-
-  three : (x y z : Lexeme) → Stands xs at x → Stands xs (at + 1) y → Stands xs (at + 2) z → drop at xs ≡ x ∷ y ∷ z ∷ drop (at + 3) xs
-  three x y z v w u = let e : (at + 2) + 1 ≡ at + 3 = omega arith in two x y v w ∙ ap (λ k. x ∷ y ∷ k) u.cut ∙ ap (λ n. x ∷ y ∷ z ∷ drop n xs) e
+  part_refused x w is y lack = never_at atom xs (x ∷ y.x ∷ drop (at + 2) xs) at (two xs at x y.x w y.stands) (part_never x is y.x (drop (at + 2) xs) y.is lack)
 
   pub part_found : (x z : Lexeme) → Stands xs at x → x.sign ≡ sign.Name → Shows sign.Dot xs (at + 1) → Stands xs (at + 2) z → Shows sign.Name xs (at + 2) → IsFound atom xs at (at + 3) (node (kind.Part x.text z.text) x.place)
   part_found x z w is y v n =
-      build atom xs at (at + 3) (node (kind.Part x.text z.text) x.place) (x ∷ y.x ∷ z ∷ drop (at + 3) xs) (drop (at + 3) xs) (three x y.x z w y.stands v) refl (let q = v.below in omega arith) (omega arith)
-      (part is y.is (sign_at sign.Name xs (at + 2) z v n)) (part_only x is y.x z (drop (at + 3) xs) y.is)
+      build atom xs at (at + 3) (node (kind.Part x.text z.text) x.place) (x ∷ y.x ∷ z ∷ drop (at + 3) xs) (drop (at + 3) xs) (three xs at x y.x z w y.stands v) refl (let q = v.below in omega arith) (omega arith)
+      (leaf (part is y.is (sign_at sign.Name xs (at + 2) z v n))) (part_only x is y.x z (drop (at + 3) xs) y.is)
 
   pub element_refused : (x : Lexeme) → Stands xs at x → x.sign ≡ sign.Name → Shows sign.OpenIndex xs (at + 1) → Never expression (drop (at + 2) xs) → Never atom (drop at xs)
-  element_refused x w is y h = never_at atom xs (x ∷ y.x ∷ drop (at + 2) xs) at (two x y.x w y.stands) (element_never x is y.x (drop (at + 2) xs) y.is h)
+  element_refused x w is y h = never_at atom xs (x ∷ y.x ∷ drop (at + 2) xs) at (two xs at x y.x w y.stands) (element_never x is y.x (drop (at + 2) xs) y.is h)
 
   pub element_unclosed : (x : Lexeme) (m : ℕ) (a : AstExpr) → Stands xs at x → x.sign ≡ sign.Name → Shows sign.OpenIndex xs (at + 1) → IsFound expression xs (at + 2) m a → Lacks sign.CloseIndex (drop m xs) → Never atom (drop at xs)
-  element_unclosed x m a w is y h lack = never_at atom xs (x ∷ y.x ∷ drop (at + 2) xs) at (two x y.x w y.stands) (element_open x is y.x (drop (at + 2) xs) (drop m xs) a y.is h.only lack)
+  element_unclosed x m a w is y h lack = never_at atom xs (x ∷ y.x ∷ drop (at + 2) xs) at (two xs at x y.x w y.stands) (element_open x is y.x (drop (at + 2) xs) (drop m xs) a y.is h.only lack)
 
   pub element_found : (x : Lexeme) (m : ℕ) (a : AstExpr) → Stands xs at x → x.sign ≡ sign.Name → Shows sign.OpenIndex xs (at + 1) → IsFound expression xs (at + 2) m a → Shows sign.CloseIndex xs m → IsFound atom xs at (m + 1) (node (kind.Index x.text a) x.place)
   element_found x m a w is y h z =
-      build atom xs at (m + 1) (node (kind.Index x.text a) x.place) (x ∷ y.x ∷ drop (at + 2) xs) (drop (m + 1) xs) (two x y.x w y.stands) refl (let q = z.stands.below in omega arith) (let q = h.further in omega arith)
+      build atom xs at (m + 1) (node (kind.Index x.text a) x.place) (x ∷ y.x ∷ drop (at + 2) xs) (drop (m + 1) xs) (two xs at x y.x w y.stands) refl (let q = z.stands.below in omega arith) (let q = h.further in omega arith)
       (element is y.is (at_reads expression a (drop (at + 2) xs) (drop (at + 2) xs) (drop m xs) (z.x ∷ drop (m + 1) xs) refl z.stands.cut h.spelled) z.is)
       (element_only x is y.x z.x (drop (at + 2) xs) (drop (m + 1) xs) a y.is (left_only m a z.x h z.stands))

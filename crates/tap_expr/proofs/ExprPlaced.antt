@@ -1,10 +1,10 @@
 -- The columns of tokens.
-use Rattle.std.proofs.Common.{◌≡◌, ℕ, zero, suc, ◌+◌, ◌≤◌, refl, subst, List, [], ◌∷◌, Some, Ok, Err, Bool, true, false, arith}
+use Rattle.std.proofs.Common.{◌≡◌, ℕ, zero, suc, ◌+◌, ◌≤◌, refl, subst, List, [], ◌∷◌, Ok, Err, Bool, true, false, arith}
 use Rattle.tap_base.specs.declared.place.Place.{Place}
 use Rattle.tap_base.specs.declared.token.Token.{Token}
-use Rattle.tap_base.specs.Bytes.{is_line_feed, after, start}
-use Rattle.tap_base.specs.Tokens.{Lexes, Comments, Outcome, end, blank, hash, token, large, odd, over, line, inside, foreign, before, SpellsTokens}
-use Rattle.tap_expr.specs.Exprs.{ArePlaced}
+use Rattle.tap_lexer.specs.Bytes.{is_line_feed, after, start}
+use Rattle.tap_lexer.specs.Tokens.{Lexes, Comments, Outcome, end, blank, hash, token, large, odd, over, line, inside, foreign, before, SpellsTokens}
+use Rattle.tap_expr.specs.inner.Exprs.{ArePlaced}
 
 abbrev Columns : List Token → Type 0
 Columns [] = Unit {0}

@@ -1,21 +1,22 @@
 -- Each rule of the grammar: what its parts' readings say of its own.
-use Rattle.std.proofs.Common.{◌≡◌, refl, sym, ◌∙◌, ap, subst, inl, inr, ◌⊎◌, List, [], ◌∷◌, Option, Some, None, Bool, true, false}
+use Rattle.std.proofs.Common.{◌≡◌, sym, ◌∙◌, ap, subst, List, [], ◌∷◌, Some, Bool, true, false}
+use Rattle.std.proofs.lemmas.Option.{same_Some}
 use Rattle.tap_base.specs.declared.ast.AstExpr.{AstExpr}
 use Rattle.tap_base.specs.declared.ast.AstKind.TheVariants as kind
 use Rattle.tap_base.specs.declared.tree.Op.{Op}
 use Rattle.tap_base.specs.declared.token.Sign.{Sign}
 use Rattle.tap_base.specs.declared.token.Sign.TheVariants as sign
-use Rattle.tap_base.specs.declared.join.Join.TheVariants.{Disjunction, Conjunction, Sum, Term}
+use Rattle.tap_base.specs.declared.join.Join.TheVariants.{Sum}
+use Rattle.tap_lexer.specs.Lexeme.{Lexeme}
+use Rattle.tap_lexer.specs.Leaves.{node}
+use Rattle.tap_lexer.specs.inner.Reading.{Lacks}
 use Rattle.tap_expr.specs.declared.start.Start.{Start}
 use Rattle.tap_expr.specs.declared.start.Start.TheVariants as start
-use Rattle.tap_base.specs.Lexeme.{Lexeme}
-use Rattle.tap_base.specs.SmallGrammar.{node}
-use Rattle.tap_base.specs.Grammar.{Level, joined, negation, relation, factor, atom, expression, relating, choosing, binary, Reads, plain, denied, single, related, positive, negative, number, truth, untruth, name, element, part, chosen, group}
-use Rattle.tap_lexer.specs.Reading.{Lacks}
-use Rattle.tap_expr.specs.ExprSigns.{starting, NoRelation}
-use Rattle.tap_expr.specs.ExprReading.{carries_on, follows_name, Stops, Only, Never}
+use Rattle.tap_expr.specs.Grammar.{Level, joined, negation, relation, factor, atom, expression, relating, binary, Reads, plain, denied, single, related, positive, negative}
+use Rattle.tap_expr.specs.inner.ExprSigns.{starting, NoRelation}
+use Rattle.tap_expr.specs.inner.ExprReading.{carries_on, Stops, Only, Never}
 use Rattle.tap_expr.proofs.ExprStops.{stops_sum, stops_relation, stops_atom, relating_stops, relating_carries}
-use Rattle.tap_expr.proofs.ExprFronts.{no_front, not_denied, not_negative, IsAtom, AsElement, AsPart, AsChoice, AsGroup, as_atom}
+use Rattle.tap_expr.proofs.ExprFronts.{no_front, not_denied, not_negative, IsAtom, as_atom}
 
 pub never_nothing : (l : Level) → Never l []
 never_nothing l d ws r h = no_front r
@@ -58,9 +59,6 @@ positive_never x ts is never d ws (negative f r) h = is f
 
 -- ---- relation
 
-same_op : (o p : Op) → Some o ≡ Some p → o ≡ p
-same_op o p e = cc
-
 unrelated : (ms us : List Lexeme) (x : Lexeme) (o : Op) → NoRelation ms → ms ≡ x ∷ us → relating x.sign ≡ Some o → ⊥
 unrelated [] us x o n e f = cc
 unrelated (y ∷ ms) us x o n e f = cc
@@ -84,7 +82,7 @@ related_only ts ms us x o a b e left right d ws (related {a = f} {b = g} {x = y}
     let s : y ≡ x = cc in
     let m : ns ≡ ms = cc in
     let v = right g ws (subst (λ k. Reads (joined Sum) g k ws) m q) (stops_sum ws h) in
-    let same : p ≡ o = same_op p o (sym c ∙ ap (λ (z : Lexeme). relating z.sign) s ∙ e) in
+    let same : p ≡ o = same_Some p o (sym c ∙ ap (λ (z : Lexeme). relating z.sign) s ∙ e) in
     (ap (λ k. binary k f g y.place) same ∙ ap (λ k. binary o k g y.place) w.0 ∙ ap (λ k. binary o a k y.place) v.0 ∙ ap (λ (k : Lexeme). binary o a b k.place) s, v.1)
 
 pub related_never : (ts ms : List Lexeme) (x : Lexeme) (o : Op) (a : AstExpr) → relating x.sign ≡ Some o → Only (joined Sum) ts a (x ∷ ms) → Never (joined Sum) ms → Never relation ts

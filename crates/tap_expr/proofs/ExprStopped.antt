@@ -6,8 +6,8 @@ use Rattle.std.proofs.lemmas.Bool.{cases_lt}
 use Rattle.std.proofs.lemmas.List.{length-map}
 use Rattle.std.proofs.lemmas.Option.{slice_get_past}
 use Rattle.tap_base.specs.declared.token.Token.{Token}
-use Rattle.tap_base.specs.Lexeme.{lexeme, lexemes}
-use Rattle.tap_base.specs.Places.{place_at, place_or, end_of}
+use Rattle.tap_lexer.specs.Lexeme.{lexeme, lexemes}
+use Rattle.tap_lexer.specs.Places.{place_at, place_or, end_of}
 
 -- before the end it is where reading stopped
 pub before_end : (k n : ℕ) → min k n < n → min k n ≡ k

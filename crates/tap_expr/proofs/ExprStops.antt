@@ -1,13 +1,13 @@
 -- What may follow an expression.
-use Rattle.std.proofs.Common.{◌≡◌, refl, sym, ◌∙◌, ap, subst, List, [], ◌∷◌, Option, Some, None, Bool, true, false, ◌||◌, is_some}
+use Rattle.std.proofs.Common.{◌≡◌, refl, List, [], ◌∷◌, Option, Some, None, Bool, true, false, ◌||◌, is_some}
 use Rattle.tap_base.specs.declared.tree.Op.{Op}
 use Rattle.tap_base.specs.declared.token.Sign.{Sign}
 use Rattle.tap_base.specs.declared.token.Sign.TheVariants as sign
 use Rattle.tap_base.specs.declared.join.Join.{Join}
 use Rattle.tap_base.specs.declared.join.Join.TheVariants.{Disjunction, Conjunction, Sum, Term}
-use Rattle.tap_base.specs.Lexeme.{Lexeme}
-use Rattle.tap_base.specs.Grammar.{Level, joined, negation, relation, factor, atom, joining, relating, part_of, Reads, Goes, done, more}
-use Rattle.tap_expr.specs.ExprReading.{carries_on, Stops}
+use Rattle.tap_lexer.specs.Lexeme.{Lexeme}
+use Rattle.tap_expr.specs.Grammar.{joined, negation, relation, factor, atom, joining, relating, part_of, Goes, done, more}
+use Rattle.tap_expr.specs.inner.ExprReading.{carries_on, Stops}
 
 or_right : (a b : Bool) → (a || b) ≡ false → b ≡ false
 or_right false b e = e

@@ -1,19 +1,19 @@
 -- All the tokens.
-use Rattle.std.proofs.Common.{◌≡◌, ℕ, ◌+◌, ◌<◌, ◌≤◌, min, refl, sym, ◌∙◌, ap, subst, List, [], ◌∷◌, ◌++◌, Result, Ok, Err, IsErrAnd, take, drop, length, map, arith}
+use Rattle.std.proofs.Common.{◌≡◌, ℕ, ◌+◌, ◌<◌, ◌≤◌, min, refl, sym, subst, List, [], ◌++◌, Result, Ok, Err, IsErrAnd, take, drop, length, arith}
 use Rattle.std.proofs.Math.Nat.{min-le_right}
 use Rattle.std.proofs.Math.Seq.{take-append_seam}
 use Rattle.std.proofs.lemmas.List.{drop_all, length-map, length-take-le}
 use Rattle.tap_base.specs.declared.ast.AstExpr.{AstExpr}
 use Rattle.tap_base.specs.declared.token.Token.{Token}
-use Rattle.tap_base.specs.Lexeme.{Lexeme, lexeme, lexemes}
-use Rattle.tap_base.specs.Grammar.{expression, Reads, Spells}
-use Rattle.tap_base.specs.ExprText.{BeginNone, IsUnspelled, OneFront}
+use Rattle.tap_lexer.specs.Lexeme.{Lexeme, lexeme, lexemes}
 use Rattle.tap_lexer.specs.declared.found.Found.{Found}
+use Rattle.tap_expr.specs.Grammar.{expression, Reads, Spells}
+use Rattle.tap_expr.specs.ExprText.{IsUnspelled}
 use Rattle.tap_expr.specs.declared.found.Built.{Built}
 use Rattle.tap_expr.specs.declared.found.Stuck.{Stuck}
 use Rattle.tap_expr.specs.declared.found.Stuck.TheVariants as stuck
-use Rattle.tap_expr.specs.ExprReading.{IsBuilt, Alike, Answers}
-use Rattle.tap_expr.specs.Exprs.{WholeAnswers}
+use Rattle.tap_expr.specs.inner.ExprReading.{IsBuilt, Alike, Answers}
+use Rattle.tap_expr.specs.inner.Exprs.{WholeAnswers}
 use Rattle.tap_expr.proofs.ExprAlike.{longer_as}
 use Rattle.tap_expr.proofs.ExprStopped.{before_end}
 

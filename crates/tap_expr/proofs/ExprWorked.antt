@@ -2,13 +2,13 @@
 use Rattle.std.proofs.Common.{ap, ◌≡◌, List, ◌∷◌}
 use Rattle.tap_base.specs.declared.join.Join.TheVariants.{Sum, Term}
 use Rattle.tap_base.specs.declared.token.Sign.TheVariants as sign
-use Rattle.tap_base.specs.Lexeme.{Lexeme}
-use Rattle.tap_base.specs.Grammar.{joined, expression, joining, Reads, chain, done, more, plain, single, positive, number, group}
-use Rattle.tap_base.specs.WorkedGrammar.{GroupsFromTheLeft, ParenthesesLeaveNoNode}
-use Rattle.tap_base.specs.WorkedGrammar.{number as number_of}
+use Rattle.tap_lexer.specs.Lexeme.{Lexeme}
+use Rattle.tap_expr.specs.Grammar.{joined, expression, joining, Reads, chain, done, more, plain, single, positive, leaf, number, group}
+use Rattle.tap_expr.specs.WorkedGrammar.{GroupsFromTheLeft, ParenthesesLeaveNoNode}
+use Rattle.tap_expr.specs.WorkedGrammar.{number as number_of}
 
 term : (x : Lexeme) (ts : List Lexeme) → x.sign ≡ sign.Number → Reads (joined Term) (number_of x) (x ∷ ts) ts
-term x ts i = chain (positive (number i)) done
+term x ts i = chain (positive (leaf (number i))) done
 
 pub groups_from_the_left : GroupsFromTheLeft
 groups_from_the_left x v y w z i p j q k =

@@ -1,4 +1,5 @@
-pub mod ExprNodes
-pub mod ExprReading
-pub mod ExprSigns
-pub mod Exprs
+pub mod ExprText
+pub mod Grammar
+pub mod Nodes
+pub mod WorkedGrammar
+pub mod inner

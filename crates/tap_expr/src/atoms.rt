@@ -2,11 +2,12 @@
 
 ghost use Rattle.std.specs.Prelude.{◌≡◌, slice_get, Some};
 ghost use Rattle.tap_base.specs.declared.token.Sign.{Sign};
-ghost use Rattle.tap_base.specs.Grammar.{atom, choosing};
-ghost use Rattle.tap_base.specs.Lexeme.{lexeme, lexemes};
-ghost use Rattle.tap_base.specs.Spans.{AreTexts, IsText};
-ghost use Rattle.tap_expr.specs.ExprReading.{Answers};
-ghost use Rattle.tap_lexer.specs.Reading.{Stands};
+ghost use Rattle.tap_lexer.specs.Depth.{IsShallow};
+ghost use Rattle.tap_lexer.specs.Lexeme.{lexeme, lexemes};
+ghost use Rattle.tap_lexer.specs.Spans.{AreTexts, IsText};
+ghost use Rattle.tap_lexer.specs.inner.Reading.{Stands};
+ghost use Rattle.tap_expr.specs.Grammar.{atom, choosing};
+ghost use Rattle.tap_expr.specs.inner.ExprReading.{Answers};
 
 use crate::chains::read_joined;
 use crate::found::{Built, Stuck};
@@ -18,7 +19,8 @@ use tap_lexer::{Found, Source};
 /// A number, a truth word, or what begins with a name, a choice or a parenthesis.
 #[cycle(expr)]
 pub fn read_atom(source: &Source, at: usize) -> Result<Found<Built>, Stuck>
-    requires { AreTexts source.now.text.now source.now.tokens.now }
+    requires texts { AreTexts source.now.text.now source.now.tokens.now }
+    requires shallow { IsShallow (lexemes source.now.text.now source.now.tokens.now) }
     ensures { Answers atom (lexemes source.now.text.now source.now.tokens.now) at result }
 {
     let Some(token) = source.token(at) else {
@@ -42,6 +44,7 @@ pub fn read_atom(source: &Source, at: usize) -> Result<Found<Built>, Stuck>
 #[cycle(expr)]
 fn read_named(source: &Source, token: Token, at: usize) -> Result<Found<Built>, Stuck>
     requires texts { AreTexts source.now.text.now source.now.tokens.now }
+    requires shallow { IsShallow (lexemes source.now.text.now source.now.tokens.now) }
     requires there { slice_get source.now.tokens.now at ≡ Some token }
     requires stands { Stands (lexemes source.now.text.now source.now.tokens.now) at (lexeme source.now.text.now token) }
     requires name { (lexeme source.now.text.now token).sign ≡ Sign.Name }
@@ -84,6 +87,7 @@ fn read_named(source: &Source, token: Token, at: usize) -> Result<Found<Built>, 
 #[cycle(expr)]
 fn read_choice(source: &Source, op: Op, token: Token, at: usize) -> Result<Found<Built>, Stuck>
     requires texts { AreTexts source.now.text.now source.now.tokens.now }
+    requires shallow { IsShallow (lexemes source.now.text.now source.now.tokens.now) }
     requires there { slice_get source.now.tokens.now at ≡ Some token }
     requires stands { Stands (lexemes source.now.text.now source.now.tokens.now) at (lexeme source.now.text.now token) }
     requires choice { choosing (lexeme source.now.text.now token).sign ≡ Some op }
@@ -110,6 +114,7 @@ fn read_choice(source: &Source, op: Op, token: Token, at: usize) -> Result<Found
 #[cycle(expr)]
 fn read_group(source: &Source, token: Token, at: usize) -> Result<Found<Built>, Stuck>
     requires texts { AreTexts source.now.text.now source.now.tokens.now }
+    requires shallow { IsShallow (lexemes source.now.text.now source.now.tokens.now) }
     requires there { slice_get source.now.tokens.now at ≡ Some token }
     requires stands { Stands (lexemes source.now.text.now source.now.tokens.now) at (lexeme source.now.text.now token) }
     requires open { (lexeme source.now.text.now token).sign ≡ Sign.Open }

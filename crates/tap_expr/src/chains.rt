@@ -1,9 +1,10 @@
 //! Expressions down to atoms: chains of parts, comparisons, and the signs before a part.
 
-ghost use Rattle.tap_base.specs.Grammar.{joined, part_of, negation, relation, factor};
-ghost use Rattle.tap_base.specs.Lexeme.{lexemes};
-ghost use Rattle.tap_base.specs.Spans.{AreTexts};
-ghost use Rattle.tap_expr.specs.ExprReading.{Answers};
+ghost use Rattle.tap_lexer.specs.Depth.{IsShallow};
+ghost use Rattle.tap_lexer.specs.Lexeme.{lexemes};
+ghost use Rattle.tap_lexer.specs.Spans.{AreTexts};
+ghost use Rattle.tap_expr.specs.Grammar.{joined, part_of, negation, relation, factor};
+ghost use Rattle.tap_expr.specs.inner.ExprReading.{Answers};
 
 use crate::atoms::read_atom;
 use crate::found::{Built, Stuck};
@@ -16,7 +17,8 @@ use tap_lexer::{Found, Source};
 /// disjunction.
 #[cycle(expr)]
 pub fn read_joined(source: &Source, join: Join, at: usize) -> Result<Found<Built>, Stuck>
-    requires { AreTexts source.now.text.now source.now.tokens.now }
+    requires texts { AreTexts source.now.text.now source.now.tokens.now }
+    requires shallow { IsShallow (lexemes source.now.text.now source.now.tokens.now) }
     ensures { Answers (joined join) (lexemes source.now.text.now source.now.tokens.now) at result }
 {
     let Found {
@@ -34,7 +36,8 @@ pub fn read_joined(source: &Source, join: Join, at: usize) -> Result<Found<Built
 /// A part of a chain.
 #[cycle(expr)]
 fn read_part(source: &Source, join: Join, at: usize) -> Result<Found<Built>, Stuck>
-    requires { AreTexts source.now.text.now source.now.tokens.now }
+    requires texts { AreTexts source.now.text.now source.now.tokens.now }
+    requires shallow { IsShallow (lexemes source.now.text.now source.now.tokens.now) }
     ensures { Answers (part_of join) (lexemes source.now.text.now source.now.tokens.now) at result }
 {
     match join {
@@ -48,7 +51,8 @@ fn read_part(source: &Source, join: Join, at: usize) -> Result<Found<Built>, Stu
 /// A comparison, or `not` before one.
 #[cycle(expr)]
 fn read_negation(source: &Source, at: usize) -> Result<Found<Built>, Stuck>
-    requires { AreTexts source.now.text.now source.now.tokens.now }
+    requires texts { AreTexts source.now.text.now source.now.tokens.now }
+    requires shallow { IsShallow (lexemes source.now.text.now source.now.tokens.now) }
     ensures { Answers negation (lexemes source.now.text.now source.now.tokens.now) at result }
 {
     let Some(token) = source.token(at) else {
@@ -67,7 +71,8 @@ fn read_negation(source: &Source, at: usize) -> Result<Found<Built>, Stuck>
 /// A sum, or two that are compared.
 #[cycle(expr)]
 fn read_relation(source: &Source, at: usize) -> Result<Found<Built>, Stuck>
-    requires { AreTexts source.now.text.now source.now.tokens.now }
+    requires texts { AreTexts source.now.text.now source.now.tokens.now }
+    requires shallow { IsShallow (lexemes source.now.text.now source.now.tokens.now) }
     ensures { Answers relation (lexemes source.now.text.now source.now.tokens.now) at result }
 {
     let left = read_joined(source, Join::Sum, at)?;
@@ -84,7 +89,8 @@ fn read_relation(source: &Source, at: usize) -> Result<Found<Built>, Stuck>
 /// An atom, or `-` before one.
 #[cycle(expr)]
 fn read_factor(source: &Source, at: usize) -> Result<Found<Built>, Stuck>
-    requires { AreTexts source.now.text.now source.now.tokens.now }
+    requires texts { AreTexts source.now.text.now source.now.tokens.now }
+    requires shallow { IsShallow (lexemes source.now.text.now source.now.tokens.now) }
     ensures { Answers factor (lexemes source.now.text.now source.now.tokens.now) at result }
 {
     let Some(token) = source.token(at) else {

@@ -1,10 +1,10 @@
 //! How deep the brackets go.
 
 ghost use Rattle.std.specs.Prelude.{◌≡◌};
-ghost use Rattle.tap_base.specs.Depth.{opens, closes};
-ghost use Rattle.tap_base.specs.Lexeme.{lexemes};
-ghost use Rattle.tap_base.specs.Spans.{AreTexts};
-ghost use Rattle.tap_expr.specs.Exprs.{Deepens};
+ghost use Rattle.tap_lexer.specs.Depth.{opens, closes};
+ghost use Rattle.tap_lexer.specs.Lexeme.{lexemes};
+ghost use Rattle.tap_lexer.specs.Spans.{AreTexts};
+ghost use Rattle.tap_expr.specs.inner.Exprs.{Deepens};
 
 use tap_base::Sign;
 use tap_lexer::Source;

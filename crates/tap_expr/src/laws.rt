@@ -1,9 +1,9 @@
 //! What the grammar of expressions promises by itself.
 
-ghost use Rattle.tap_base.specs.ExprText.{OneFront, OneEnd};
-ghost use Rattle.tap_base.specs.Grammar.{OneTree};
-ghost use Rattle.tap_base.specs.WorkedGrammar.{GroupsFromTheLeft, ParenthesesLeaveNoNode};
-ghost use Rattle.tap_expr.specs.ExprReading.{OneReading};
+ghost use Rattle.tap_expr.specs.ExprText.{OneFront, OneEnd};
+ghost use Rattle.tap_expr.specs.Grammar.{OneTree};
+ghost use Rattle.tap_expr.specs.WorkedGrammar.{GroupsFromTheLeft, ParenthesesLeaveNoNode};
+ghost use Rattle.tap_expr.specs.inner.ExprReading.{OneReading};
 
 /// Tokens spell at most one expression; and of the readings of their front at which nothing can go
 /// on there is at most one.

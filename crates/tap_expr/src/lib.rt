@@ -11,8 +11,6 @@ mod nodes;
 mod places;
 mod signs;
 mod start;
-#[cfg(test)]
-mod tests;
 mod whole;
 
 pub use depth::first_too_deep;

@@ -1,8 +1,8 @@
 //! Nodes of expressions, as long as these are not too many.
 
 ghost use Rattle.std.specs.Prelude.{◌≡◌, IfOk};
-ghost use Rattle.tap_base.specs.SmallGrammar.{node};
-ghost use Rattle.tap_expr.specs.ExprNodes.{OfOne, OfTwo, Grows, Meets};
+ghost use Rattle.tap_lexer.specs.Leaves.{node};
+ghost use Rattle.tap_expr.specs.inner.ExprNodes.{OfOne, OfTwo, Grows, Meets};
 
 use crate::found::Built;
 use std::alloc::Global;

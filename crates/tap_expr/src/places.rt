@@ -1,9 +1,9 @@
 //! Places of tokens by their numbers.
 
 ghost use Rattle.std.specs.Prelude.{◌≡◌, ◌≤◌, length};
-ghost use Rattle.tap_base.specs.Places.{end_of, place_at};
-ghost use Rattle.tap_base.specs.Spans.{AreTexts};
-ghost use Rattle.tap_expr.specs.Exprs.{ArePlaced};
+ghost use Rattle.tap_lexer.specs.Places.{end_of, place_at};
+ghost use Rattle.tap_lexer.specs.Spans.{AreTexts};
+ghost use Rattle.tap_expr.specs.inner.Exprs.{ArePlaced};
 
 use tap_base::Place;
 use tap_lexer::Source;

@@ -1,9 +1,9 @@
 //! Signs that join the parts of a chain, and signs that compare.
 
 ghost use Rattle.std.specs.Prelude.{◌≡◌, ◌<◌, length, IfSome};
-ghost use Rattle.tap_base.specs.Grammar.{joining, relating};
-ghost use Rattle.tap_base.specs.Spans.{AreTexts};
-ghost use Rattle.tap_expr.specs.ExprSigns.{Joins, Relates};
+ghost use Rattle.tap_lexer.specs.Spans.{AreTexts};
+ghost use Rattle.tap_expr.specs.Grammar.{joining, relating};
+ghost use Rattle.tap_expr.specs.inner.ExprSigns.{Joins, Relates};
 
 use tap_base::{Join, Op, Sign, Token};
 use tap_lexer::Source;

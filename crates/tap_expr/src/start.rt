@@ -1,7 +1,7 @@
 //! What an atom begins with.
 
 ghost use Rattle.std.specs.Prelude.{◌≡◌};
-ghost use Rattle.tap_expr.specs.ExprSigns.{starting};
+ghost use Rattle.tap_expr.specs.inner.ExprSigns.{starting};
 
 use tap_base::{Op, Sign};
 

@@ -1,12 +1,13 @@
 //! Expressions from a token on, and expressions that all the tokens of a text are.
 
 ghost use Rattle.std.specs.Prelude.{◌≤◌, length};
-ghost use Rattle.tap_base.specs.Grammar.{expression};
-ghost use Rattle.tap_base.specs.Lexeme.{lexemes};
-ghost use Rattle.tap_base.specs.Spans.{AreTexts};
-ghost use Rattle.tap_base.specs.Tokens.{SpellsTokens};
-ghost use Rattle.tap_expr.specs.ExprReading.{Answers};
-ghost use Rattle.tap_expr.specs.Exprs.{WholeAnswers, ExprAnswers};
+ghost use Rattle.tap_lexer.specs.Depth.{IsShallow};
+ghost use Rattle.tap_lexer.specs.Lexeme.{lexemes};
+ghost use Rattle.tap_lexer.specs.Spans.{AreTexts};
+ghost use Rattle.tap_lexer.specs.Tokens.{SpellsTokens};
+ghost use Rattle.tap_expr.specs.Grammar.{expression};
+ghost use Rattle.tap_expr.specs.inner.ExprReading.{Answers};
+ghost use Rattle.tap_expr.specs.inner.Exprs.{WholeAnswers, ExprAnswers};
 
 use crate::chains::read_joined;
 use crate::depth::first_too_deep;
@@ -54,7 +55,8 @@ pub fn parse_expr(alloc: Global, text: &[u8], tokens: &[Token]) -> Result<AstExp
 /// What is kept of the expression that stands at a token, and the number of the token behind it. No
 /// bracket may be too deep: how deep the calls go is bounded by nothing else.
 pub fn read_expr(source: &Source, at: usize) -> Result<Found<Built>, Stuck>
-    requires { AreTexts source.now.text.now source.now.tokens.now }
+    requires texts { AreTexts source.now.text.now source.now.tokens.now }
+    requires shallow { IsShallow (lexemes source.now.text.now source.now.tokens.now) }
     ensures { Answers expression (lexemes source.now.text.now source.now.tokens.now) at result }
 {
     read_joined(source, Join::Disjunction, at)
@@ -62,7 +64,8 @@ pub fn read_expr(source: &Source, at: usize) -> Result<Found<Built>, Stuck>
 
 /// What is kept of the expression that all the tokens spell.
 fn read_whole(source: &Source) -> Result<Built, Stuck>
-    requires { AreTexts source.now.text.now source.now.tokens.now }
+    requires texts { AreTexts source.now.text.now source.now.tokens.now }
+    requires shallow { IsShallow (lexemes source.now.text.now source.now.tokens.now) }
     ensures { WholeAnswers (lexemes source.now.text.now source.now.tokens.now) result }
 {
     let found = read_expr(source, 0)?;

@@ -6,7 +6,7 @@ use Rattle.std.proofs.lemmas.Str.{digit_value_digit}
 use Rattle.std.proofs.lemmas.Str.Parse.{digits_value-take-le}
 use Rattle.std.proofs.lemmas.Int.Digits.{digits_value_more}
 use Rattle.std.proofs.lemmas.Bool.Decides.{nat_tests}
-use Rattle.tap_base.specs.Tokens.{AllPass}
+use Rattle.tap_lexer.specs.Tokens.{AllPass}
 
 low : (b : ℕ) → is_ascii_digit b ≡ true → 48 ≤ b
 low b e = grind (arith, nat_tests)

@@ -1,4 +1,6 @@
 mod Digits
+pub mod InARow
+pub mod One
 pub mod Pieces
 mod Places
 mod Reading
@@ -7,5 +9,4 @@ pub mod Spans
 mod Spelled
 mod Standing
 pub mod Tables
-pub mod One
 pub mod TokenPlaces

@@ -1,12 +1,12 @@
 -- A text has at most one outcome.
-use Rattle.std.proofs.Common.{◌≡◌, ℕ, zero, suc, ◌+◌, Bool, true, false, refl, sym, ◌∙◌, ap, subst, List, [], ◌∷◌, Some, take, drop, ℤ, ◌&&◌, not, arith}
+use Rattle.std.proofs.Common.{◌≡◌, ℕ, zero, suc, ◌+◌, Bool, true, false, refl, sym, ◌∙◌, ap, subst, List, [], ◌∷◌, Some, Ok, take, drop, ℤ, ◌&&◌, not, arith}
 use Rattle.std.proofs.lemmas.Bool.{eqb-true}
 use Rattle.tap_base.specs.declared.place.Place.{Place}
 use Rattle.tap_base.specs.declared.token.TokenKind.{TokenKind}
 use Rattle.tap_base.specs.declared.token.TokenKind.TheVariants.{Name, Number, Word, Symbol}
 use Rattle.tap_base.specs.declared.token.Token.{Token}
-use Rattle.tap_base.specs.Bytes.{is_blank, is_hash, is_line_feed, in_comment, in_alphabet, along}
-use Rattle.tap_base.specs.Tokens.{Lexes, Comments, Outcome, end, blank, hash, token, large, odd, over, line, inside, foreign, before, Longest, IsToken, value, OneOutcome}
+use Rattle.tap_lexer.specs.Bytes.{is_blank, is_hash, is_line_feed, in_comment, in_alphabet, along}
+use Rattle.tap_lexer.specs.Tokens.{Lexes, Comments, Outcome, end, blank, hash, token, large, odd, over, line, inside, foreign, before, Longest, IsToken, value, SpellsTokens, OneOutcome}
 use Rattle.tap_lexer.proofs.Tables.{and_left}
 use Rattle.tap_lexer.proofs.Shapes.{IsOther, no_empty, word_letter, symbol_mark, mark_no_letter, mark_no_digit, letter_no_digit, token_other}
 
@@ -124,3 +124,7 @@ mutual
 
 pub one_text : OneOutcome
 one_text text r s l m = one l m
+
+-- a text spells at most one list of tokens
+pub same_tokens : (text : List ℕ) (ts us : List Token) → SpellsTokens text ts → SpellsTokens text us → ts ≡ us
+same_tokens text ts us h k = let e = one_text text (Ok ts) (Ok us) h k in cc

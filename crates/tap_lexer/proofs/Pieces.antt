@@ -8,10 +8,10 @@ use Rattle.std.proofs.lemmas.List.Sums.{prefix_len-le-length}
 use Rattle.std.proofs.lemmas.Bool.Decides.{nat_tests}
 use Rattle.tap_base.specs.declared.token.TokenKind.{TokenKind}
 use Rattle.tap_base.specs.declared.token.TokenKind.TheVariants.{Name, Number, Word, Symbol}
-use Rattle.tap_base.specs.Bytes.{in_word}
-use Rattle.tap_base.specs.Words.{words, symbols, is_in}
-use Rattle.tap_base.specs.Tokens.{AllPass, IsToken, Longest, NoToken}
-use Rattle.tap_lexer.specs.Lexing.{word_kind}
+use Rattle.tap_lexer.specs.Bytes.{in_word}
+use Rattle.tap_lexer.specs.Words.{words, symbols, is_in}
+use Rattle.tap_lexer.specs.Tokens.{AllPass, IsToken, Longest, NoToken}
+use Rattle.tap_lexer.specs.inner.Lexing.{word_kind}
 use Rattle.tap_lexer.proofs.Tables.{and_left, and_right}
 use Rattle.tap_lexer.proofs.Shapes.{no_empty, word_letter, word_goes, symbol_mark, symbol_short, mark_no_letter, mark_no_digit, letter_no_digit}
 
@@ -36,7 +36,7 @@ same_byte a b e = cc
 
 -- ---- names and words
 
-letter_in_word : (b : ℕ) → is_ascii_alphabetic b ≡ true → in_word b ≡ true
+pub letter_in_word : (b : ℕ) → is_ascii_alphabetic b ≡ true → in_word b ≡ true
 letter_in_word b e = rw e refl
 
 kind_of : (b : ℕ) (bs : List ℕ) (v : Bool) → is_ascii_alphabetic b ≡ true → AllPass in_word bs → is_in words (b ∷ bs) ≡ v → IsToken (if v then Word else Name) (b ∷ bs)

@@ -2,14 +2,15 @@
 use Rattle.std.proofs.Common.{◌≡◌, ℕ, ◌+◌, ◌<◌, ◌≤◌, Bool, true, false, ◌&&◌, not, cond, refl, sym, ◌∙◌, ap, subst, List, [], ◌∷◌, ◌++◌, Some, take, drop, length, get_or, arith}
 use Rattle.std.specs.Prelude.{reverse}
 use Rattle.std.specs.List.{slice_get, prefix_len}
-use Rattle.std.proofs.lemmas.List.{take_more, reverse-append, drop-drop, length-drop, get_or-drop, take-append-drop, length-take-le}
+use Rattle.std.proofs.lemmas.List.{take_more, reverse-append, length-drop, get_or-drop, take-append-drop, length-take-le}
 use Rattle.std.proofs.lemmas.List.Sums.{count_by_more_yes, count_by_more_no}
 use Rattle.std.proofs.lemmas.Option.{slice_get-get_or}
 use Rattle.std.proofs.lemmas.Bool.{eqb-true}
 use Rattle.tap_base.specs.declared.place.Place.{Place}
-use Rattle.tap_base.specs.Bytes.{is_hash, is_line_feed, in_comment, in_alphabet, after, along}
-use Rattle.tap_base.specs.Tokens.{AllPass}
-use Rattle.tap_base.specs.TokenSpans.{place_of}
+use Rattle.tap_base.proofs.ListFacts.{behind_first}
+use Rattle.tap_lexer.specs.Bytes.{is_hash, is_line_feed, in_comment, in_alphabet, after, along}
+use Rattle.tap_lexer.specs.Tokens.{AllPass}
+use Rattle.tap_lexer.specs.TokenSpans.{place_of}
 
 -- a byte that begins no line
 abbrev pub on_line : ℕ → Bool
@@ -25,9 +26,6 @@ byte_there text at b bs e = let z : at ≡ at + 0 = omega arith in ap (λ k. get
 
 pub got : (text : List ℕ) (at b : ℕ) (bs : List ℕ) → drop at text ≡ b ∷ bs → slice_get text at ≡ Some b
 got text at b bs e = let h = below text at b bs e in slice_get-get_or text at 0 h ∙ ap Some (byte_there text at b bs e)
-
-pub next : (text : List ℕ) (at b : ℕ) (bs : List ℕ) → drop at text ≡ b ∷ bs → drop (at + 1) text ≡ bs
-next text at b bs e = sym (drop-drop 1 at text) ∙ ap (drop 1) e
 
 -- ---- places
 
@@ -80,7 +78,7 @@ place_line (b ∷ w) text rest at e a =
     let z : at + length (b ∷ w) ≡ at + 1 + length w = omega arith in
     let c : (place_of text at).column + 1 + length w ≡ (place_of text at).column + length (b ∷ w) = omega arith in
     ap (place_of text) z
-    ∙ place_line w text rest (at + 1) (next text at b (w ++ rest) e) a.1
+    ∙ place_line w text rest (at + 1) (behind_first text at b (w ++ rest) e) a.1
     ∙ ap (along (length w)) (place_along_one text at b (w ++ rest) e (on_line_false b a.0))
     ∙ same_place (place_of text at).line (place_of text at).line ((place_of text at).column + 1 + length w) ((place_of text at).column + length (b ∷ w)) refl c
 

@@ -1,20 +1,18 @@
 -- What each step of a text says of its outcome.
 use Rattle.std.proofs.Common.{◌≡◌, ℕ, zero, suc, ◌+◌, ◌<◌, ◌≤◌, Bool, true, false, ◌&&◌, not, ◌==◌, cond, refl, sym, ◌∙◌, ap, subst, List, [], ◌∷◌, ◌++◌, Option, Some, None, Ok, Err, take, drop, length, append_assoc, append-nil, get_or, inl, inr, ◌⊎◌, ℤ, arith}
 use Rattle.std.specs.List.{slice_get, prefix_len}
-use Rattle.std.proofs.lemmas.List.{drop_more, drop-drop, drop_all, length-drop}
-use Rattle.std.proofs.lemmas.Option.{slice_get-get_or, slice_get_within, get_or_from_slice_get, slice_get_cases}
+use Rattle.std.proofs.lemmas.List.{drop-drop, drop_all, length-drop}
+use Rattle.std.proofs.lemmas.Option.{slice_get-get_or, slice_get_cases}
 use Rattle.std.proofs.lemmas.Bool.{eqb-true}
 use Rattle.tap_base.specs.declared.place.Place.{Place}
 use Rattle.tap_base.specs.declared.token.TokenKind.{TokenKind}
 use Rattle.tap_base.specs.declared.token.TokenKind.TheVariants.{Name, Number, Word, Symbol}
 use Rattle.tap_base.specs.declared.token.Token.{Token}
-use Rattle.tap_base.specs.Bytes.{is_blank, is_hash, is_line_feed, in_comment, in_alphabet, after, along}
-use Rattle.tap_base.specs.Tokens.{Lexes, Comments, Outcome, end, blank, hash, token, large, odd, over, line, inside, foreign, before, unread, too_large, Longest, NoToken, IsToken, value}
-use Rattle.tap_lexer.specs.Lexing.{Goes, before_one, one_of}
+use Rattle.tap_base.proofs.ListFacts.{cut_at}
+use Rattle.tap_lexer.specs.Bytes.{is_blank, is_hash, is_line_feed, in_comment, in_alphabet, after, along}
+use Rattle.tap_lexer.specs.Tokens.{Lexes, Comments, Outcome, end, blank, hash, token, large, odd, over, line, inside, foreign, before, unread, too_large, Longest, NoToken, IsToken, value}
+use Rattle.tap_lexer.specs.inner.Lexing.{Goes, before_one, one_of}
 use Rattle.tap_lexer.proofs.Shapes.{no_empty}
-
-pub cut_at : {X : Type 0} (xs : List X) (k : ℕ) (x : X) → slice_get xs k ≡ Some x → drop k xs ≡ x ∷ drop (k + 1) xs
-cut_at xs k x e = drop_more xs k x (slice_get_within xs k x e) ∙ ap (λ y. y ∷ drop (k + 1) xs) (get_or_from_slice_get xs k x x e)
 
 lexes_at : (at : ℕ) (p : Place) (bs cs : List ℕ) (r : Outcome) → bs ≡ cs → Lexes at p cs r → Lexes at p bs r
 lexes_at at p bs cs r e h = let P : List ℕ → Type 0 = λ k. Lexes at p k r in subst P (sym e) h

@@ -5,9 +5,9 @@ use Rattle.std.specs.List.{list_all}
 use Rattle.std.proofs.lemmas.Bool.Decides.{nat_tests}
 use Rattle.tap_base.specs.declared.token.TokenKind.{TokenKind}
 use Rattle.tap_base.specs.declared.token.TokenKind.TheVariants.{Name, Number, Word, Symbol}
-use Rattle.tap_base.specs.Bytes.{is_blank, is_hash, in_word}
-use Rattle.tap_base.specs.Words.{words, symbols, is_in}
-use Rattle.tap_base.specs.Tokens.{AllPass, IsToken}
+use Rattle.tap_lexer.specs.Bytes.{is_blank, is_hash, in_word}
+use Rattle.tap_lexer.specs.Words.{words, symbols, is_in}
+use Rattle.tap_lexer.specs.Tokens.{AllPass, IsToken}
 use Rattle.tap_lexer.proofs.Tables.{listed_passes, and_left, and_right}
 
 -- a byte that begins a symbol

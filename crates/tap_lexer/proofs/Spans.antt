@@ -10,10 +10,11 @@ use Rattle.tap_base.specs.declared.place.Place.{Place}
 use Rattle.tap_base.specs.declared.token.TokenKind.{TokenKind}
 use Rattle.tap_base.specs.declared.token.TokenKind.TheVariants.{Name, Number, Word, Symbol}
 use Rattle.tap_base.specs.declared.token.Token.{Token}
-use Rattle.tap_base.specs.Bytes.{in_word}
-use Rattle.tap_base.specs.Words.{words, symbols}
-use Rattle.tap_base.specs.Tokens.{Lexes, Comments, Outcome, end, blank, hash, token, large, odd, over, line, inside, foreign, before, AllPass, Longest, IsToken, value}
-use Rattle.tap_base.specs.Spans.{IsText, AreTexts, InOrder}
+use Rattle.tap_base.proofs.ListFacts.{behind_first}
+use Rattle.tap_lexer.specs.Bytes.{in_word}
+use Rattle.tap_lexer.specs.Words.{words, symbols}
+use Rattle.tap_lexer.specs.Tokens.{Lexes, Comments, Outcome, end, blank, hash, token, large, odd, over, line, inside, foreign, before, AllPass, Longest, IsToken, value}
+use Rattle.tap_lexer.specs.Spans.{IsText, AreTexts, InOrder}
 use Rattle.tap_lexer.proofs.Tables.{listed_passes, and_left, and_right}
 
 -- ---- a token's bytes are ASCII
@@ -72,9 +73,6 @@ sooner : (text : List ℕ) (at n : ℕ) (r : Outcome) → Stand text (at + n) r 
 sooner text at n (Ok ts) h = (h.0, earlier at n ts h.1)
 sooner text at n (Err e) h = tt
 
-next : (text : List ℕ) (at b : ℕ) (bs : List ℕ) → drop at text ≡ b ∷ bs → drop (at + 1) text ≡ bs
-next text at b bs e = sym (drop-drop 1 at text) ∙ ap (drop 1) e
-
 room : (text : List ℕ) (at n b : ℕ) (bs : List ℕ) → drop at text ≡ b ∷ bs → n ≤ length (b ∷ bs) → at + n ≤ length text
 room text at n b bs e h = let l : length (drop at text) ≡ length (b ∷ bs) = ap length e in let d = length-drop at text in omega arith
 
@@ -99,8 +97,8 @@ put text at n p k v (Err e) i h = tt
 mutual
   stand : {at : ℕ} {p : Place} {w : List ℕ} {r : Outcome} → (text : List ℕ) → drop at text ≡ w → Lexes at p w r → Stand text at r
   stand text e end = (tt, tt)
-  stand text e (blank {at} {b} {bs} {r} f l) = sooner text at 1 r (stand text (next text at b bs e) l)
-  stand text e (hash {at} {b} {bs} {r} f l) = sooner text at 1 r (stand_comment text (next text at b bs e) l)
+  stand text e (blank {at} {b} {bs} {r} f l) = sooner text at 1 r (stand text (behind_first text at b bs e) l)
+  stand text e (hash {at} {b} {bs} {r} f l) = sooner text at 1 r (stand_comment text (behind_first text at b bs e) l)
   stand text e (token {at} {n} {p} {b} {bs} {k} {v} {r} g x l) = put text at n p k v r (found text at n b bs p k v e g x) (stand text (sym (drop-drop n at text) ∙ ap (drop n) e) l)
   stand text e (large g x) = tt
   stand text e (odd f h g) = tt
@@ -108,7 +106,7 @@ mutual
   stand_comment : {at : ℕ} {p : Place} {w : List ℕ} {r : Outcome} → (text : List ℕ) → drop at text ≡ w → Comments at p w r → Stand text at r
   stand_comment text e over = (tt, tt)
   stand_comment text e (line f l) = stand text e l
-  stand_comment text e (inside {at} {b} {bs} {r} f l) = sooner text at 1 r (stand_comment text (next text at b bs e) l)
+  stand_comment text e (inside {at} {b} {bs} {r} f l) = sooner text at 1 r (stand_comment text (behind_first text at b bs e) l)
   stand_comment text e (foreign f) = tt
 
 -- what a text spells stands in it

@@ -9,11 +9,12 @@ use Rattle.tap_base.specs.declared.refusal.RefusalCode.TheVariants as code
 use Rattle.tap_base.specs.declared.token.TokenKind.{TokenKind}
 use Rattle.tap_base.specs.declared.token.TokenKind.TheVariants.{Number}
 use Rattle.tap_base.specs.declared.token.Token.{Token}
-use Rattle.tap_base.specs.Bytes.{is_blank, is_hash, is_line_feed, in_comment, along, after}
-use Rattle.tap_base.specs.Tokens.{Lexes, Comments, Outcome, end, blank, hash, token, large, odd, over, line, inside, foreign, before, AllPass, Longest, NoToken, IsToken, value, LexesTo}
-use Rattle.tap_base.specs.TokenSpans as span
-use Rattle.tap_base.specs.TokenSpans.{place_of, Side, Gap, nothing, begun, blank_more, comment_more, HasToken, Stand, OffenceAt, HasTokens, HasOffence}
-use Rattle.tap_lexer.proofs.Places.{next, place_after, place_along_one, place_along, hash_on_line, comment_on_line}
+use Rattle.tap_base.proofs.ListFacts.{behind_first}
+use Rattle.tap_lexer.specs.Bytes.{is_blank, is_hash, is_line_feed, in_comment, along, after}
+use Rattle.tap_lexer.specs.Tokens.{Lexes, Comments, Outcome, end, blank, hash, token, large, odd, over, line, inside, foreign, before, AllPass, Longest, NoToken, IsToken, value, LexesTo}
+use Rattle.tap_lexer.specs.TokenSpans as span
+use Rattle.tap_lexer.specs.TokenSpans.{place_of, Side, Gap, nothing, begun, blank_more, comment_more, HasToken, Stand, OffenceAt, HasTokens, HasOffence}
+use Rattle.tap_lexer.proofs.Places.{place_after, place_along_one, place_along, hash_on_line, comment_on_line}
 use Rattle.tap_lexer.proofs.Shapes.{no_empty}
 use Rattle.tap_lexer.proofs.Standing.{token_on_line, feed_blank}
 
@@ -32,13 +33,13 @@ module _ (text : List ℕ) (at b : ℕ) (bs : List ℕ) (r : Outcome) (e : drop 
   back p q l =
       let P : Place → Type 0 = λ k. Lexes (at + 1) k bs r in
       let Q : List ℕ → Type 0 = λ w. Lexes (at + 1) (place_of text (at + 1)) w r in
-      subst P q (subst Q (next text at b bs e) l)
+      subst P q (subst Q (behind_first text at b bs e) l)
 
   back_inside : is_line_feed b ≡ false → Goes span.inside text (at + 1) r → Comments (at + 1) (along 1 (place_of text at)) bs r
   back_inside f l =
       let P : Place → Type 0 = λ k. Comments (at + 1) k bs r in
       let Q : List ℕ → Type 0 = λ w. Comments (at + 1) (place_of text (at + 1)) w r in
-      subst P (place_along_one text at b bs e f) (subst Q (next text at b bs e) l)
+      subst P (place_along_one text at b bs e f) (subst Q (behind_first text at b bs e) l)
 
   whole : Lexes at (place_of text at) (b ∷ bs) r → Goes span.outside text at r
   whole l = let P : List ℕ → Type 0 = λ w. Lexes at (place_of text at) w r in subst P (sym e) l
@@ -64,26 +65,26 @@ comment_back : (cs text rest : List ℕ) (at : ℕ) (r : Outcome) → drop at te
 comment_back [] text rest at r e a l = goes_at span.inside text at (at + length {A = ℕ} []) r (omega arith) l
 comment_back (c ∷ cs) text rest at r e a l =
     inside_back text at c (cs ++ rest) r e a.0
-    (comment_back cs text rest (at + 1) r (next text at c (cs ++ rest) e) a.1 (goes_at span.inside text (at + 1 + length cs) (at + length (c ∷ cs)) r (omega arith) l))
+    (comment_back cs text rest (at + 1) r (behind_first text at c (cs ++ rest) e) a.1 (goes_at span.inside text (at + 1 + length cs) (at + length (c ∷ cs)) r (omega arith) l))
 
 gap_back : (s : Side) (g text rest : List ℕ) (at : ℕ) (r : Outcome) → Gap s g → drop at text ≡ g ++ rest → Goes s text (at + length g) r → Goes span.outside text at r
 gap_back s g text rest at r nothing e l = goes_at span.outside text at (at + length {A = ℕ} []) r (omega arith) l
 gap_back s g text rest at r (begun {cs = []} i) e l = absurd i
 gap_back s g text rest at r (begun {cs = c ∷ cs} i) e l =
     hash_back text at c (cs ++ rest) r e i.0
-    (comment_back cs text rest (at + 1) r (next text at c (cs ++ rest) e) i.1 (goes_at span.inside text (at + 1 + length cs) (at + length (c ∷ cs)) r (omega arith) l))
+    (comment_back cs text rest (at + 1) r (behind_first text at c (cs ++ rest) e) i.1 (goes_at span.inside text (at + 1 + length cs) (at + length (c ∷ cs)) r (omega arith) l))
 gap_back s g text rest at r (blank_more {b} {bs} f h) e l =
     blank_back text at b (bs ++ rest) r e f
-    (gap_back s bs text rest (at + 1) r h (next text at b (bs ++ rest) e) (goes_at s text (at + 1 + length bs) (at + length (b ∷ bs)) r (omega arith) l))
+    (gap_back s bs text rest (at + 1) r h (behind_first text at b (bs ++ rest) e) (goes_at s text (at + 1 + length bs) (at + length (b ∷ bs)) r (omega arith) l))
 gap_back s g text rest at r (comment_more [] b bs i f h) e l = absurd i
 gap_back s g text rest at r (comment_more (c ∷ cs) b bs i f h) e l =
-    let n = next text at c ((cs ++ b ∷ bs) ++ rest) e ∙ append_assoc cs (b ∷ bs) rest in
+    let n = behind_first text at c ((cs ++ b ∷ bs) ++ rest) e ∙ append_assoc cs (b ∷ bs) rest in
     let d : drop (at + 1 + length cs) text ≡ b ∷ (bs ++ rest) = sym (drop-drop (length cs) (at + 1) text) ∙ ap (drop (length cs)) n ∙ drop_at cs (b ∷ bs ++ rest) (length cs) refl in
     let z : at + 1 + length cs + 1 + length bs ≡ at + length (c ∷ cs ++ b ∷ bs) = let a = length-append cs (b ∷ bs) in omega arith in
     hash_back text at c ((cs ++ b ∷ bs) ++ rest) r e i.0
     (comment_back cs text (b ∷ bs ++ rest) (at + 1) r n i.1
     (line_back text (at + 1 + length cs) b (bs ++ rest) r d f
-    (gap_back s bs text rest (at + 1 + length cs + 1) r h (next text (at + 1 + length cs) b (bs ++ rest) d) (goes_at s text (at + 1 + length cs + 1 + length bs) (at + length (c ∷ cs ++ b ∷ bs)) r z l))))
+    (gap_back s bs text rest (at + 1 + length cs + 1) r h (behind_first text (at + 1 + length cs) b (bs ++ rest) d) (goes_at s text (at + 1 + length cs + 1 + length bs) (at + length (c ∷ cs ++ b ∷ bs)) r z l))))
 
 span_back : (s : Side) (text : List ℕ) (at n : ℕ) (r : Outcome) → at ≤ n → n ≤ length text → Gap s (slice_range text at n) → Goes s text n r → Goes span.outside text at r
 span_back s text at n r h m g l =

@@ -1,24 +1,26 @@
 -- What is read from left to right stands in the text.
-use Rattle.std.proofs.Common.{◌≡◌, ℕ, zero, suc, ◌+◌, ◌-◌, ◌≤◌, Bool, true, false, refl, sym, ◌∙◌, ap, subst, List, [], ◌∷◌, ◌++◌, Some, None, Result, Ok, Err, take, drop, length, ℤ, arith}
+use Rattle.std.proofs.Common.{◌≡◌, ℕ, suc, ◌+◌, ◌-◌, ◌≤◌, Bool, true, false, refl, sym, ◌∙◌, ap, subst, List, [], ◌∷◌, ◌++◌, Some, None, Result, Ok, Err, take, drop, length, ℤ, arith}
 use Rattle.std.specs.List.{slice_range, list_all}
+use Rattle.std.proofs.Math.Seq.{take-nil}
 use Rattle.std.proofs.lemmas.List.{drop-drop, length-drop}
+use Rattle.std.specs.Char.{is_ascii_alphabetic, is_ascii_digit}
+use Rattle.std.proofs.lemmas.Bool.Decides.{nat_tests}
 use Rattle.tap_base.specs.declared.place.Place.{Place}
 use Rattle.tap_base.specs.declared.refusal.Refusal.{Refusal}
 use Rattle.tap_base.specs.declared.token.TokenKind.{TokenKind}
 use Rattle.tap_base.specs.declared.token.TokenKind.TheVariants.{Name, Number, Word, Symbol}
 use Rattle.tap_base.specs.declared.token.Token.{Token}
-use Rattle.tap_base.specs.Bytes.{is_blank, is_hash, is_line_feed, in_alphabet, in_comment, in_word, along, after}
-use Rattle.tap_base.specs.Words.{symbols}
-use Rattle.tap_base.specs.Tokens.{Lexes, Comments, Outcome, end, blank, hash, token, large, odd, over, line, inside, foreign, before, unread, too_large, AllPass, Longest, NoToken, IsToken, value, LexesTo}
-use Rattle.tap_base.specs.TokenSpans as span
-use Rattle.tap_base.specs.TokenSpans.{place_of, Side, Gap, nothing, begun, blank_more, comment_more, HasToken, Stand, OffenceAt, HasTokens, HasOffence}
-use Rattle.std.specs.Char.{is_ascii_alphabetic, is_ascii_digit}
-use Rattle.std.proofs.lemmas.Bool.Decides.{nat_tests}
+use Rattle.tap_base.proofs.ListFacts.{behind_first}
+use Rattle.tap_lexer.specs.Bytes.{is_blank, is_hash, is_line_feed, in_alphabet, in_comment, in_word, along, after}
+use Rattle.tap_lexer.specs.Words.{symbols}
+use Rattle.tap_lexer.specs.Tokens.{Lexes, Comments, Outcome, end, blank, hash, token, large, odd, over, line, inside, foreign, before, unread, too_large, AllPass, Longest, NoToken, IsToken, value, LexesTo}
+use Rattle.tap_lexer.specs.TokenSpans as span
+use Rattle.tap_lexer.specs.TokenSpans.{place_of, Side, Gap, nothing, begun, blank_more, comment_more, HasToken, Stand, OffenceAt, HasTokens, HasOffence}
 use Rattle.tap_lexer.specs.declared.fault.LexFault.{LexFault}
 use Rattle.tap_lexer.specs.declared.fault.LexFault.TheVariants as fault
-use Rattle.tap_lexer.specs.Lexing.{Answers, Shows}
+use Rattle.tap_lexer.specs.inner.Lexing.{Answers, Shows}
 use Rattle.tap_lexer.proofs.One.{blank_hash, blank_token}
-use Rattle.tap_lexer.proofs.Places.{on_line, below, got, next, place_after, place_along_one, place_along, hash_on_line, comment_on_line}
+use Rattle.tap_lexer.proofs.Places.{on_line, below, got, place_after, place_along_one, place_along, hash_on_line, comment_on_line}
 use Rattle.tap_lexer.proofs.Shapes.{all_pass, word_letter, word_goes}
 use Rattle.tap_lexer.proofs.Tables.{listed_passes}
 
@@ -61,7 +63,7 @@ module _ (G H : Side → List ℕ → Type 0) (text : List ℕ) (at b : ℕ) (bs
   slice_more : (n : ℕ) → at + 1 ≤ n → slice_range text at n ≡ b ∷ slice_range text (at + 1) n
   slice_more n h =
       let z : n - at ≡ suc (n - (at + 1)) = omega arith in
-      ap (λ k. take k (drop at text)) z ∙ ap (take (suc (n - (at + 1)))) e ∙ ap (λ w. b ∷ take (n - (at + 1)) w) (sym (next text at b bs e))
+      ap (λ k. take k (drop at text)) z ∙ ap (take (suc (n - (at + 1)))) e ∙ ap (λ w. b ∷ take (n - (at + 1)) w) (sym (behind_first text at b bs e))
 
   part : (s : Side) (n : ℕ) → at + 1 ≤ n → G s (slice_range text (at + 1) n) → H s (slice_range text at n)
   part s n h g = subst (H s) (sym (slice_more n h)) (goes s (slice_range text (at + 1) n) g)
@@ -130,11 +132,7 @@ pub feed_blank : (b : ℕ) → is_line_feed b ≡ true → is_blank b ≡ true
 feed_blank b e = grind (arith, nat_tests)
 
 at_end : (text : List ℕ) (at : ℕ) → at ≤ length text → drop at text ≡ [] → slice_range text at (length text) ≡ []
-at_end text at h e = ap (take (length text - at)) e ∙ go (length text - at)
-  where
-    go : (n : ℕ) → take {A = ℕ} n [] ≡ []
-    go zero = refl
-    go (suc n) = refl
+at_end text at h e = ap (take (length text - at)) e ∙ take-nil (length text - at)
 
 stray_at : (text : List ℕ) (at b : ℕ) (bs : List ℕ) (p : Place) → drop at text ≡ b ∷ bs → p ≡ place_of text at → is_blank b ≡ false → is_hash b ≡ false → NoToken (b ∷ bs) → Read Gap text at (unread p)
 stray_at text at b bs p e q f h g =
@@ -159,10 +157,10 @@ mutual
   stands {at} text h e q end = (span.outside, (h, subst (Gap span.outside) (sym (at_end text at h e)) nothing))
   stands text h e q (blank {at} {p} {b} {bs} {r} f l) =
       let m = below text at b bs e in
-      read Gap Gap text at b bs e (λ s w g. blank_more f g) r (stands text (omega arith) (next text at b bs e) (ap (after b) q ∙ sym (place_after text at b bs e)) l)
+      read Gap Gap text at b bs e (λ s w g. blank_more f g) r (stands text (omega arith) (behind_first text at b bs e) (ap (after b) q ∙ sym (place_after text at b bs e)) l)
   stands text h e q (hash {at} {p} {b} {bs} {r} f l) =
       let m = below text at b bs e in
-      read Tail Gap text at b bs e (λ s w g. hash_gap b s w f g) r (comments text (omega arith) (next text at b bs e) (ap (along 1) q ∙ sym (place_along_one text at b bs e (hash_on_line b f))) l)
+      read Tail Gap text at b bs e (λ s w g. hash_gap b s w f g) r (comments text (omega arith) (behind_first text at b bs e) (ap (along 1) q ∙ sym (place_along_one text at b bs e (hash_on_line b f))) l)
   stands text h e q (token {at} {n} {p} {b} {bs} {k} {v} {r} g x l) =
       let m = (there text at b n bs p k e g).within in
       let d = length-drop at text in
@@ -175,14 +173,14 @@ mutual
   comments {at} text h e q over = (span.inside, (h, subst (Tail span.inside) (sym (at_end text at h e)) (goes_on tt)))
   comments text h e q (line f (blank {at} {p} {b} {bs} {r} i l)) =
       let m = below text at b bs e in
-      read Gap Tail text at b bs e (λ s w g. ends [] b w tt f g) r (stands text (omega arith) (next text at b bs e) (ap (after b) q ∙ sym (place_after text at b bs e)) l)
+      read Gap Tail text at b bs e (λ s w g. ends [] b w tt f g) r (stands text (omega arith) (behind_first text at b bs e) (ap (after b) q ∙ sym (place_after text at b bs e)) l)
   comments text h e q (line {b} f (hash i l)) = absurd (blank_hash b (feed_blank b f) i)
   comments text h e q (line {b} {bs} f (token {n} {k} g x l)) = absurd (blank_token k n b bs (feed_blank b f) g)
   comments text h e q (line {b} {bs} f (large {n} g x)) = absurd (blank_token Number n b bs (feed_blank b f) g)
   comments text h e q (line {b} f (odd i j g)) = let y = feed_blank b f in absurd cc
   comments text h e q (inside {at} {p} {b} {bs} {r} f l) =
       let m = below text at b bs e in
-      read Tail Tail text at b bs e (λ s w g. tail_more b s w f g) r (comments text (omega arith) (next text at b bs e) (ap (along 1) q ∙ sym (place_along_one text at b bs e (comment_on_line b f))) l)
+      read Tail Tail text at b bs e (λ s w g. tail_more b s w f g) r (comments text (omega arith) (behind_first text at b bs e) (ap (along 1) q ∙ sym (place_along_one text at b bs e (comment_on_line b f))) l)
   comments text h e q (foreign {at} {p} {b} {bs} f) = foreign_at text at b bs p e q f
 
 pub tokens_stand : (text : List ℕ) (ts : List Token) → LexesTo text (Ok ts) → HasTokens text ts

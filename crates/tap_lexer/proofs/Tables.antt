@@ -5,7 +5,7 @@ use Rattle.std.specs.Option.{is_some}
 use Rattle.std.specs.List.{list_all}
 use Rattle.std.proofs.lemmas.Slice.Eq.{bytes_eq-Decides}
 use Rattle.tap_base.specs.declared.token.Sign.{Sign}
-use Rattle.tap_base.specs.Words.{Table, sign_in, is_in}
+use Rattle.tap_lexer.specs.Words.{Table, sign_in, is_in}
 
 first_found : (v : Bool) (x y : Option Sign) (s t : Sign) → (x ≡ Some s → y ≡ Some s) → (if v then Some t else x) ≡ Some s → (if v then Some t else y) ≡ Some s
 first_found true x y s t h e = e

@@ -1,15 +1,13 @@
 -- A token at a place.
-use Rattle.std.proofs.Common.{◌≡◌, ℕ, ◌+◌, ◌<◌, ◌≤◌, sym, ◌∙◌, ap, subst, inl, inr, ◌⊎◌, List, [], ◌∷◌, Option, Some, None, drop, length, map, get_or}
+use Rattle.std.proofs.Common.{◌≡◌, ℕ, ◌+◌, sym, ◌∙◌, ap, subst, List, [], ◌∷◌, Option, Some, None, drop, map}
 use Rattle.std.specs.List.{slice_get}
-use Rattle.std.proofs.lemmas.Option.{slice_get_within, slice_get_cases, get_or_from_slice_get}
-use Rattle.std.proofs.lemmas.List.{drop_more, drop-map, drop_all, length-map}
+use Rattle.std.proofs.lemmas.Option.{slice_get_within}
+use Rattle.std.proofs.lemmas.List.{drop-map, drop_all, length-map}
 use Rattle.tap_base.specs.declared.token.Token.{Token}
 use Rattle.tap_base.specs.declared.token.Sign.{Sign}
-use Rattle.tap_base.specs.Lexeme.{Lexeme, lexeme, lexemes}
-use Rattle.tap_lexer.specs.Reading.{Stands, Seen, Lacks}
-
-cut_at : {X : Type 0} (xs : List X) (k : ℕ) (x : X) → slice_get xs k ≡ Some x → drop k xs ≡ x ∷ drop (k + 1) xs
-cut_at xs k x e = drop_more xs k x (slice_get_within xs k x e) ∙ ap (λ y. y ∷ drop (k + 1) xs) (get_or_from_slice_get xs k x x e)
+use Rattle.tap_base.proofs.ListFacts.{cut_at, past_end}
+use Rattle.tap_lexer.specs.Lexeme.{Lexeme, lexeme, lexemes}
+use Rattle.tap_lexer.specs.inner.Reading.{Stands, Seen, Lacks}
 
 pub stands : (text : List ℕ) (ts : List Token) (k : ℕ) (t : Token) → slice_get ts k ≡ Some t → Stands (lexemes text ts) k (lexeme text t)
 stands text ts k t e = record {
@@ -17,15 +15,8 @@ stands text ts k t e = record {
   below = let w = slice_get_within ts k t e in rw (length-map ts (lexeme text)) w;
 }
 
-past : (xs : List Token) (k : ℕ) → slice_get xs k ≡ None → length xs ≤ k
-past xs k e = go (slice_get_cases xs k).1
-  where
-    go : ((x : Token) × (k < length xs) × (slice_get xs k ≡ Some x) × (get_or xs k x ≡ x)) ⊎ ((length xs ≤ k) × (slice_get xs k ≡ None)) → length xs ≤ k
-    go (inl w) = let f = w.2 in absurd cc
-    go (inr w) = w.0
-
 pub ends : (text : List ℕ) (ts : List Token) (k : ℕ) → slice_get ts k ≡ None → drop k (lexemes text ts) ≡ []
-ends text ts k e = let p = past ts k e in drop_all k (lexemes text ts) (rw (length-map ts (lexeme text)) p)
+ends text ts k e = let p = past_end ts k e in drop_all k (lexemes text ts) (rw (length-map ts (lexeme text)) p)
 
 pub seen : (text : List ℕ) (ts : List Token) (k : ℕ) (t : Option Token) → t ≡ slice_get ts k → Seen text ts k t
 seen text ts k None e = ends text ts k (sym e)

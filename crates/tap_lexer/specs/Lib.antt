@@ -1,2 +1,11 @@
-pub mod Lexing
-pub mod Reading
+pub mod Bytes
+pub mod Depth
+pub mod Leaves
+pub mod Lexeme
+pub mod Places
+pub mod Rows
+pub mod Spans
+pub mod TokenSpans
+pub mod Tokens
+pub mod Words
+pub mod inner

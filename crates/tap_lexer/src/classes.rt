@@ -2,8 +2,8 @@
 
 ghost use Rattle.std.specs.Prelude.{◌≡◌, ◌≤◌, length};
 ghost use Rattle.std.specs.List.{prefix_len};
-ghost use Rattle.tap_base.specs.Bytes.{is_blank};
-ghost use Rattle.tap_lexer.specs.Lexing.{belongs};
+ghost use Rattle.tap_lexer.specs.Bytes.{is_blank};
+ghost use Rattle.tap_lexer.specs.inner.Lexing.{belongs};
 
 /// Bytes that go on what began before them.
 #[derive(Clone, Copy, Debug)]

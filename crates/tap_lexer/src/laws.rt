@@ -1,7 +1,7 @@
 //! What the definition of tokens promises by itself.
 
-ghost use Rattle.tap_base.specs.TokenSpans.{SameOffences, SameTokens};
-ghost use Rattle.tap_base.specs.Tokens.{OneOutcome};
+ghost use Rattle.tap_lexer.specs.TokenSpans.{SameOffences, SameTokens};
+ghost use Rattle.tap_lexer.specs.Tokens.{OneOutcome};
 
 /// A text has at most one outcome.
 pub fn one_outcome()

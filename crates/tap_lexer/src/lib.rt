@@ -10,8 +10,6 @@ mod numbers;
 mod source;
 mod spellings;
 mod steps;
-#[cfg(test)]
-mod tests;
 mod tokens;
 
 pub use fault::LexFault;

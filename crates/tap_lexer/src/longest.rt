@@ -2,8 +2,8 @@
 
 ghost use Rattle.std.specs.Prelude.{◌≡◌, ◌≤◌, ◌&&◌, nat_le, length, slice_get, Some, false, take};
 ghost use Rattle.std.specs.Char.{is_ascii_digit, is_ascii_alphabetic};
-ghost use Rattle.tap_base.specs.Words.{symbols, words, is_in};
-ghost use Rattle.tap_lexer.specs.Lexing.{Begins, word_kind};
+ghost use Rattle.tap_lexer.specs.Words.{symbols, words, is_in};
+ghost use Rattle.tap_lexer.specs.inner.Lexing.{Begins, word_kind};
 
 use crate::classes::{Class, run};
 use crate::spellings::{symbol_sign, word_sign};

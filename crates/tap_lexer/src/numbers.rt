@@ -3,7 +3,7 @@
 ghost use Rattle.std.specs.Prelude.{◌≡◌};
 ghost use Rattle.std.specs.Char.{is_ascii_digit};
 ghost use Rattle.tap_base.specs.declared.token.TokenKind.TheVariants.{Number};
-ghost use Rattle.tap_base.specs.Tokens.{AllPass, value};
+ghost use Rattle.tap_lexer.specs.Tokens.{AllPass, value};
 
 /// The value of a number's digits; none if it is above 9223372036854775807.
 pub fn number_value(digits: &[u8]) -> Option<i64>

@@ -1,11 +1,11 @@
 //! A text with its tokens.
 
 ghost use Rattle.std.specs.Prelude.{◌≡◌, ◌<◌, length, drop, slice_get, slice_range, true, false, IfOk, IfSome};
-ghost use Rattle.tap_base.specs.Lexeme.{lexeme, lexemes};
-ghost use Rattle.tap_base.specs.SmallGrammar.{ident};
-ghost use Rattle.tap_base.specs.Spans.{AreTexts, IsText};
-ghost use Rattle.tap_base.specs.Words.{sign_of};
-ghost use Rattle.tap_lexer.specs.Reading.{Lacks, Seen, Shows, Taken};
+ghost use Rattle.tap_lexer.specs.Lexeme.{lexeme, lexemes};
+ghost use Rattle.tap_lexer.specs.Leaves.{ident};
+ghost use Rattle.tap_lexer.specs.Spans.{AreTexts, IsText};
+ghost use Rattle.tap_lexer.specs.Words.{sign_of};
+ghost use Rattle.tap_lexer.specs.inner.Reading.{Lacks, Seen, Shows, Taken};
 
 use crate::spellings::sign_of;
 use std::alloc::Global;

@@ -1,7 +1,7 @@
 //! The words of the language and its symbols, and the sign of each.
 
 ghost use Rattle.std.specs.Prelude.{◌≡◌};
-ghost use Rattle.tap_base.specs.Words.{declaring_words, acting_words, reckoning_words, words, symbols, sign_in, sign_of};
+ghost use Rattle.tap_lexer.specs.Words.{declaring_words, acting_words, reckoning_words, words, symbols, sign_in, sign_of};
 
 use tap_base::{Sign, TokenKind};
 

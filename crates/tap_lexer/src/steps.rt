@@ -1,9 +1,9 @@
 //! One blank, comment or token.
 
 ghost use Rattle.std.specs.Prelude.{◌≡◌, ◌+◌, ◌^◌, ◌<◌, ◌≤◌, true, false, length, slice_get, Some, drop};
-ghost use Rattle.tap_base.specs.Bytes.{is_blank, is_hash, after, along};
-ghost use Rattle.tap_base.specs.Tokens.{IsToken, value};
-ghost use Rattle.tap_lexer.specs.Lexing.{Steps};
+ghost use Rattle.tap_lexer.specs.Bytes.{is_blank, is_hash, after, along};
+ghost use Rattle.tap_lexer.specs.Tokens.{IsToken, value};
+ghost use Rattle.tap_lexer.specs.inner.Lexing.{Steps};
 
 use crate::classes::{Class, is_blank, run};
 use crate::longest::{byte_at, front, longest_token};

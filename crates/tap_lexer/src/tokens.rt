@@ -1,8 +1,8 @@
 //! The tokens of a text.
 
 ghost use Rattle.std.specs.Prelude.{◌≡◌, ◌≤◌, ◌++◌, length, IfOk, OnOk};
-ghost use Rattle.tap_base.specs.Spans.{AreTexts, InOrder};
-ghost use Rattle.tap_lexer.specs.Lexing.{Answers, Shows, one_of};
+ghost use Rattle.tap_lexer.specs.Spans.{AreTexts, InOrder};
+ghost use Rattle.tap_lexer.specs.inner.Lexing.{Answers, Shows, one_of};
 
 use crate::fault::LexFault;
 use crate::steps::read_step;

@@ -3,18 +3,18 @@ use Rattle.std.proofs.Common.{◌≡◌, ℕ, zero, suc, ◌+◌, ◌<◌, refl,
 use Rattle.std.proofs.lemmas.List.{drop-take}
 use Rattle.std.proofs.Math.Nat.{eq-or-lt_of_le}
 use Rattle.tap_base.specs.declared.token.Sign.{Sign}
-use Rattle.tap_base.specs.Lexeme.{Lexeme}
-use Rattle.tap_base.specs.Declarations.{Block, absent, present}
-use Rattle.tap_base.specs.SmallGrammar.{Separated, last, more, SomeSeparated, none, some, Row}
+use Rattle.tap_lexer.specs.Lexeme.{Lexeme}
+use Rattle.tap_lexer.specs.Rows.{Separated, last, more, SomeSeparated, none, some, Row}
 use Rattle.tap_lexer.specs.declared.found.Found.{Found}
+use Rattle.tap_lexer.specs.inner.Reading.{Shows}
+use Rattle.tap_lexer.specs.inner.Reading.{Lacks, Free, Closed, closed, Stands}
 use Rattle.tap_expr.specs.declared.found.Stuck.{Stuck}
+use Rattle.tap_expr.specs.inner.ExprReading.{Alike}
+use Rattle.tap_parser.specs.Declarations.{Block, absent, present}
 use Rattle.tap_parser.specs.declared.kept.Kept.{Kept}
 use Rattle.tap_parser.specs.declared.kept.Kept.TheVariants.{Whole, Large}
-use Rattle.tap_lexer.specs.Reading.{Shows}
-use Rattle.tap_lexer.specs.Reading.{Lacks, Free, Closed, closed, Stands}
-use Rattle.tap_parser.specs.Forms.{Begins}
-use Rattle.tap_expr.specs.ExprReading.{Alike}
-use Rattle.tap_parser.specs.Reading.{Answers, Agrees, Verdict}
+use Rattle.tap_parser.specs.inner.Forms.{Begins}
+use Rattle.tap_parser.specs.inner.Reading.{Answers, Agrees, Verdict}
 use Rattle.tap_parser.proofs.TextParts.{Form, Follow, Both, renamed, After, after, shown_answers, anywhere, begins_here, lacks_here, renamed_answers, empty_answers, token_answers, begun}
 use Rattle.tap_parser.proofs.TextLists.{Further, done, next}
 

@@ -10,28 +10,29 @@ use Rattle.tap_base.specs.declared.ast.AstStmt.{AstStmt}
 use Rattle.tap_base.specs.declared.ast.Ident.{Ident}
 use Rattle.tap_base.specs.declared.token.Sign.{Sign}
 use Rattle.tap_base.specs.declared.token.Sign.TheVariants as sign
-use Rattle.tap_base.specs.Declarations.{IsName, name}
-use Rattle.tap_base.specs.Grammar.{expression}
-use Rattle.tap_base.specs.Lexeme.{Lexeme}
-use Rattle.tap_base.specs.SmallGrammar.{ident}
-use Rattle.tap_base.specs.Statements.{IsStmt, AreStmts, IsBranch, guarded, AreBranches, last, more, final, further, IsGuard, local, receive, timeout, IsAction}
-use Rattle.tap_base.specs.Systems.{Sized}
+use Rattle.tap_lexer.specs.Lexeme.{Lexeme}
+use Rattle.tap_lexer.specs.Leaves.{ident}
 use Rattle.tap_lexer.specs.declared.found.Found.{Found}
+use Rattle.tap_lexer.specs.inner.Reading.{Shows}
+use Rattle.tap_lexer.specs.inner.Reading.{Lacks, Free, Stands}
+use Rattle.tap_expr.specs.Grammar.{expression}
 use Rattle.tap_expr.specs.declared.found.Stuck.{Stuck}
 use Rattle.tap_expr.specs.declared.found.Stuck.TheVariants as stuck
+use Rattle.tap_expr.specs.inner.ExprReading.{carries_on, Stops}
+use Rattle.tap_expr.proofs.ExprAlike.{stands_as}
+use Rattle.tap_expr.proofs.ExprOne.{stops_before}
+use Rattle.tap_parser.specs.Declarations.{IsName, name}
+use Rattle.tap_parser.specs.Statements.{IsStmt, AreStmts, IsBranch, guarded, AreBranches, last, more, final, further, IsGuard, local, receive, timeout, IsAction}
+use Rattle.tap_parser.specs.Systems.{Sized}
 use Rattle.tap_parser.specs.declared.kept.Kept.{Kept}
 use Rattle.tap_parser.specs.declared.kept.Kept.TheVariants.{Whole, Large}
-use Rattle.tap_expr.specs.ExprReading.{carries_on, Stops}
-use Rattle.tap_lexer.specs.Reading.{Shows}
-use Rattle.tap_parser.specs.Keeping.{both, mapped}
-use Rattle.tap_lexer.specs.Reading.{Lacks, Free, Stands}
-use Rattle.tap_parser.specs.Forms.{Begins, StmtStops, BodyStops, BranchesStop}
-use Rattle.tap_parser.specs.Reading.{Answers}
-use Rattle.tap_expr.proofs.ExprAlike.{stands_as}
+use Rattle.tap_parser.specs.inner.Keeping.{both, mapped}
+use Rattle.tap_parser.specs.inner.Forms.{Begins, StmtStops, BodyStops, BranchesStop}
+use Rattle.tap_parser.specs.inner.Reading.{Answers}
 use Rattle.tap_parser.proofs.TextParts.{Form, Both, renamed, After, after, Here, anywhere, begins_here, lacks_here, both_here, renamed_answers, fails}
 use Rattle.tap_parser.proofs.TextBounds.{Name}
 use Rattle.tap_parser.proofs.TextLists.{Further, done, next}
-use Rattle.tap_parser.proofs.TextExprs.{stops_at, opens_expr, sized_opens, unopened}
+use Rattle.tap_parser.proofs.TextExprs.{opens_expr, sized_opens, unopened}
 use Rattle.tap_parser.proofs.TextStatements.{Stmts, empty_here}
 
 -- ---- what ends statements and branches
@@ -39,40 +40,40 @@ use Rattle.tap_parser.proofs.TextStatements.{Stmts, empty_here}
 pub semicolon_stops : (ts : List Lexeme) → Begins sign.Semicolon ts → StmtStops ts
 unfolding carries_on
 semicolon_stops [] e = absurd e
-semicolon_stops (x ∷ us) e = (stops_at sign.Semicolon x us refl e, λ f. absurd cc)
+semicolon_stops (x ∷ us) e = (stops_before sign.Semicolon x us refl e, λ f. absurd cc)
 
 pub box_stops : (ts : List Lexeme) → Begins sign.Box ts → BodyStops ts
 unfolding carries_on
 box_stops [] e = absurd e
-box_stops (x ∷ us) e = ((stops_at sign.Box x us refl e, λ f. absurd cc), λ f. absurd cc)
+box_stops (x ∷ us) e = ((stops_before sign.Box x us refl e, λ f. absurd cc), λ f. absurd cc)
 
 pub fi_stops : (x : Lexeme) (us : List Lexeme) → x.sign ≡ sign.Fi → BranchesStop (x ∷ us)
 unfolding carries_on
-fi_stops x us e = (((stops_at sign.Fi x us refl e, λ f. absurd cc), λ f. absurd cc), λ f. absurd cc)
+fi_stops x us e = (((stops_before sign.Fi x us refl e, λ f. absurd cc), λ f. absurd cc), λ f. absurd cc)
 
 pub od_stops : (x : Lexeme) (us : List Lexeme) → x.sign ≡ sign.Od → BranchesStop (x ∷ us)
 unfolding carries_on
-od_stops x us e = (((stops_at sign.Od x us refl e, λ f. absurd cc), λ f. absurd cc), λ f. absurd cc)
+od_stops x us e = (((stops_before sign.Od x us refl e, λ f. absurd cc), λ f. absurd cc), λ f. absurd cc)
 
 pub end_stops : (x : Lexeme) (us : List Lexeme) → x.sign ≡ sign.End → BodyStops (x ∷ us)
 unfolding carries_on
-end_stops x us e = ((stops_at sign.End x us refl e, λ f. absurd cc), λ f. absurd cc)
+end_stops x us e = ((stops_before sign.End x us refl e, λ f. absurd cc), λ f. absurd cc)
 
 pub arrow_stops : (x : Lexeme) (us : List Lexeme) → x.sign ≡ sign.Arrow → Stops expression (x ∷ us)
 unfolding carries_on
-arrow_stops x us e = stops_at sign.Arrow x us refl e
+arrow_stops x us e = stops_before sign.Arrow x us refl e
 
 pub bracket_stops : (x : Lexeme) (us : List Lexeme) → x.sign ≡ sign.CloseIndex → Stops expression (x ∷ us)
 unfolding carries_on
-bracket_stops x us e = stops_at sign.CloseIndex x us refl e
+bracket_stops x us e = stops_before sign.CloseIndex x us refl e
 
 pub comma_stops : (x : Lexeme) (us : List Lexeme) → x.sign ≡ sign.Comma → Stops expression (x ∷ us)
 unfolding carries_on
-comma_stops x us e = stops_at sign.Comma x us refl e
+comma_stops x us e = stops_before sign.Comma x us refl e
 
 pub paren_stops : (x : Lexeme) (us : List Lexeme) → x.sign ≡ sign.Close → Stops expression (x ∷ us)
 unfolding carries_on
-paren_stops x us e = stops_at sign.Close x us refl e
+paren_stops x us e = stops_before sign.Close x us refl e
 
 pub paren_ends : (x : Lexeme) (us : List Lexeme) → x.sign ≡ sign.Close → Stops expression (x ∷ us) × (x.sign ≡ sign.Comma → ⊥)
 paren_ends x us e = (paren_stops x us e, λ f. absurd cc)

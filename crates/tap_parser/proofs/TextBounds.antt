@@ -8,19 +8,19 @@ use Rattle.tap_base.specs.declared.ast.Bound.{Bound}
 use Rattle.tap_base.specs.declared.ast.Bound.TheVariants as bound
 use Rattle.tap_base.specs.declared.ast.Ident.{Ident}
 use Rattle.tap_base.specs.declared.token.Sign.TheVariants as sign
-use Rattle.tap_base.specs.Lexeme.{Lexeme}
-use Rattle.tap_base.specs.SmallGrammar.{ident}
-use Rattle.tap_base.specs.Declarations.{IsName, name, number, IsSigned, plain, negative, IsBound, IsScalar, boolean, between, IsType, single, array}
+use Rattle.tap_lexer.specs.Lexeme.{Lexeme}
+use Rattle.tap_lexer.specs.Leaves.{ident}
 use Rattle.tap_lexer.specs.declared.found.Found.{Found}
+use Rattle.tap_lexer.specs.inner.Reading.{Shows}
+use Rattle.tap_lexer.specs.inner.Reading.{Lacks, Free, IsTaken}
 use Rattle.tap_expr.specs.declared.found.Stuck.{Stuck}
 use Rattle.tap_expr.specs.declared.found.Stuck.TheVariants as stuck
+use Rattle.tap_parser.specs.Declarations.{IsName, name, number, IsSigned, plain, negative, IsBound, IsScalar, boolean, between, IsType, single, array}
 use Rattle.tap_parser.specs.declared.kept.Kept.{Kept}
 use Rattle.tap_parser.specs.declared.kept.Kept.TheVariants.{Whole}
 use Rattle.tap_parser.specs.declared.leaves.Numeral.{Numeral}
-use Rattle.tap_lexer.specs.Reading.{Shows}
-use Rattle.tap_lexer.specs.Reading.{Lacks, Free, IsTaken}
-use Rattle.tap_parser.specs.Forms.{Begins, IsNumeral, numeral}
-use Rattle.tap_parser.specs.Reading.{Answers}
+use Rattle.tap_parser.specs.inner.Forms.{Begins, IsNumeral, numeral}
+use Rattle.tap_parser.specs.inner.Reading.{Answers}
 use Rattle.tap_parser.proofs.TextParts.{Form, Follow, Both, joined, renamed, both_answers, both_stuck, After, after, shown_answers, begins_here, lacks_here, renamed_answers, fails, token_answers}
 
 abbrev pub Name : Form Ident

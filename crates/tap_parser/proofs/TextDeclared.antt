@@ -11,19 +11,20 @@ use Rattle.tap_base.specs.declared.ast.Bound.{Bound}
 use Rattle.tap_base.specs.declared.ast.Ident.{Ident}
 use Rattle.tap_base.specs.declared.token.Sign.{Sign}
 use Rattle.tap_base.specs.declared.token.Sign.TheVariants as sign
-use Rattle.tap_base.specs.Lexeme.{Lexeme}
-use Rattle.tap_base.specs.SmallGrammar.{ident, Separated}
-use Rattle.tap_base.specs.Declarations.{Optional, absent, present, name, IsNumber, number, IsSigned, IsBound, IsScalar, IsConst, IsInput, IsVar, IsField, IsMessage, declared}
+use Rattle.tap_lexer.specs.Lexeme.{Lexeme}
+use Rattle.tap_lexer.specs.Leaves.{ident}
+use Rattle.tap_lexer.specs.Rows.{Separated}
 use Rattle.tap_lexer.specs.declared.found.Found.{Found}
+use Rattle.tap_lexer.specs.inner.Reading.{Shows}
+use Rattle.tap_lexer.specs.inner.Reading.{Lacks, Free, Closed, closed}
 use Rattle.tap_expr.specs.declared.found.Stuck.{Stuck}
+use Rattle.tap_parser.specs.Declarations.{Optional, absent, present, name, IsNumber, number, IsSigned, IsBound, IsScalar, IsConst, IsInput, IsVar, IsField, IsMessage, declared}
 use Rattle.tap_parser.specs.declared.kept.Kept.{Kept}
 use Rattle.tap_parser.specs.declared.kept.Kept.TheVariants.{Whole, Large}
 use Rattle.tap_parser.specs.declared.leaves.Numeral.{Numeral}
-use Rattle.tap_lexer.specs.Reading.{Shows}
-use Rattle.tap_parser.specs.Keeping.{both, mapped}
-use Rattle.tap_lexer.specs.Reading.{Lacks, Free, Closed, closed}
-use Rattle.tap_parser.specs.Forms.{Begins, IsNumeral, numeral}
-use Rattle.tap_parser.specs.Reading.{Answers}
+use Rattle.tap_parser.specs.inner.Keeping.{both, mapped}
+use Rattle.tap_parser.specs.inner.Forms.{Begins, IsNumeral, numeral}
+use Rattle.tap_parser.specs.inner.Reading.{Answers}
 use Rattle.tap_parser.proofs.TextParts.{Form, Both, renamed, After, after, shown_answers, anywhere, begins_here, lacks_here, renamed_answers, empty_answers, begun}
 use Rattle.tap_parser.proofs.TextBounds.{Name, Number, Types}
 

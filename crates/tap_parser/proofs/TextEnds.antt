@@ -6,14 +6,14 @@ use Rattle.tap_base.specs.declared.ast.AstExpr.{AstExpr}
 use Rattle.tap_base.specs.declared.place.Place.{Place}
 use Rattle.tap_base.specs.declared.refusal.RefusalCode.TheVariants as code
 use Rattle.tap_base.specs.declared.token.Token.{Token}
-use Rattle.tap_base.specs.Depth.{IsTooDeep, IsShallow}
-use Rattle.tap_base.specs.ExprText.{refusal}
 use Rattle.tap_base.specs.declared.refusal.Refusal.{Refusal}
-use Rattle.tap_base.specs.Lexeme.{Lexeme, lexemes}
-use Rattle.tap_base.specs.Places.{place_at}
-use Rattle.tap_base.specs.Systems.{IsTree, IsUntold, IsTooLarge, TextOffence, deep, unspelled, large, Sized, SpellsText, SpellsTo, OneTextFront, OneTextEnd}
-use Rattle.tap_base.proofs.Weaker.{weaker}
+use Rattle.tap_lexer.specs.Depth.{IsTooDeep, IsShallow}
+use Rattle.tap_lexer.specs.Lexeme.{Lexeme, lexemes}
+use Rattle.tap_lexer.specs.Places.{place_at}
+use Rattle.tap_expr.specs.ExprText.{refusal}
 use Rattle.tap_expr.proofs.ExprStopped.{stopped_place}
+use Rattle.tap_parser.specs.Systems.{IsTree, IsUntold, IsTooLarge, TextOffence, deep, unspelled, large, Sized, SpellsText, SpellsTo, OneTextFront, OneTextEnd}
+use Rattle.tap_parser.proofs.Weaker.{weaker}
 
 module _ (text : List ℕ) (tokens : List Token) where
   pub deep_at : (k : ℕ) (p : Place) → p ≡ place_at tokens k → IsTooDeep (lexemes text tokens) k → TextOffence text tokens (refusal code.S2 p)

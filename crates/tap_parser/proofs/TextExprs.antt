@@ -1,39 +1,37 @@
 -- Expressions with what is kept of them, and targets.
-use Rattle.std.proofs.Common.{◌≡◌, ℕ, ◌+◌, ◌<◌, ◌≤◌, refl, sym, ◌∙◌, ap, subst, List, [], ◌∷◌, Option, Some, None, Bool, true, false, nat_lt, Result, Ok, Err, drop, length, ltb-true, lt-ltb, arith}
+use Rattle.std.proofs.Common.{◌≡◌, ℕ, ◌+◌, ◌<◌, ◌≤◌, refl, sym, ap, subst, List, [], ◌∷◌, Option, Some, None, Bool, true, false, nat_lt, Result, Ok, Err, drop, length, ltb-true, lt-ltb, arith}
 use Rattle.tap_base.specs.declared.ast.AstExpr.{AstExpr}
 use Rattle.tap_base.specs.declared.ast.AstTarget.{AstTarget}
 use Rattle.tap_base.specs.declared.ast.Ident.{Ident}
 use Rattle.tap_base.specs.declared.token.Sign.{Sign}
 use Rattle.tap_base.specs.declared.token.Sign.TheVariants as sign
 use Rattle.tap_base.specs.declared.tree.Op.{Op}
-use Rattle.tap_base.specs.Declarations.{name}
-use Rattle.tap_base.specs.Grammar.{Level, expression, choosing, Reads, chain, plain, denied, single, related, positive, negative, number, truth, untruth, name as named_atom, element as indexed_atom, part, chosen, group}
-use Rattle.tap_base.specs.Lexeme.{Lexeme}
-use Rattle.tap_base.specs.Nodes.{nodes, most_nodes}
-use Rattle.tap_base.specs.SmallGrammar.{ident, Separated, last, more}
-use Rattle.tap_base.specs.Statements.{IsTarget, whole, element}
-use Rattle.tap_base.specs.Systems.{Sized}
+use Rattle.tap_lexer.specs.Lexeme.{Lexeme}
+use Rattle.tap_lexer.specs.Leaves.{ident}
+use Rattle.tap_lexer.specs.Rows.{Separated, last, more}
 use Rattle.tap_lexer.specs.declared.found.Found.{Found}
+use Rattle.tap_lexer.specs.inner.Reading.{Shows}
+use Rattle.tap_lexer.specs.inner.Reading.{Lacks, Free, Closed, closed}
+use Rattle.tap_expr.specs.Grammar.{Level, expression, choosing, Reads, chain, plain, denied, single, related, positive, negative, leaf, number, truth, untruth, name as named_atom, element as indexed_atom, part, chosen, group}
+use Rattle.tap_expr.specs.Nodes.{nodes, most_nodes}
 use Rattle.tap_expr.specs.declared.found.Built.{Built}
 use Rattle.tap_expr.specs.declared.found.Built.TheVariants as built
 use Rattle.tap_expr.specs.declared.found.Stuck.{Stuck}
 use Rattle.tap_expr.specs.declared.found.Stuck.TheVariants as stuck
+use Rattle.tap_expr.specs.inner.ExprReading.{carries_on, Stops, IsFound, IsBuilt}
+use Rattle.tap_expr.specs.inner.ExprReading as reading
+use Rattle.tap_parser.specs.Declarations.{name}
+use Rattle.tap_parser.specs.Statements.{IsTarget, whole, element}
+use Rattle.tap_parser.specs.Systems.{Sized}
 use Rattle.tap_parser.specs.declared.kept.Kept.{Kept}
 use Rattle.tap_parser.specs.declared.kept.Kept.TheVariants.{Whole, Large}
-use Rattle.tap_expr.specs.ExprReading.{carries_on, Stops, IsFound, IsBuilt, Alike}
-use Rattle.tap_expr.specs.ExprReading as reading
-use Rattle.tap_lexer.specs.Reading.{Shows}
-use Rattle.tap_parser.specs.Keeping.{both, mapped, kept_of}
-use Rattle.tap_lexer.specs.Reading.{Lacks, Free, Closed, closed}
-use Rattle.tap_parser.specs.Forms.{Begins}
-use Rattle.tap_parser.specs.Reading.{Verdict, Agrees, Lies, Answers}
+use Rattle.tap_parser.specs.inner.Keeping.{both, mapped, kept_of}
+use Rattle.tap_parser.specs.inner.Forms.{Begins}
+use Rattle.tap_parser.specs.inner.Reading.{Verdict, Agrees, Lies, Answers}
 use Rattle.tap_parser.proofs.TextParts.{begun, Form, Both, renamed, After, after, shown_answers, anywhere, begins_here, lacks_here, renamed_answers, empty_answers}
 use Rattle.tap_parser.proofs.TextBounds.{Name}
 
 -- ---- what ends an expression
-
-pub stops_at : (s : Sign) (x : Lexeme) (us : List Lexeme) → carries_on expression s ≡ false → x.sign ≡ s → Stops expression (x ∷ us)
-stops_at s x us q e = ap (carries_on expression) e ∙ q
 
 pub no_index : (us : List Lexeme) → Stops expression us → Lacks sign.OpenIndex us
 unfolding carries_on
@@ -71,12 +69,12 @@ expr_opens (single r) = expr_opens r
 expr_opens (related r i q) = expr_opens r
 expr_opens (positive r) = expr_opens r
 expr_opens (negative i r) = ap opens_expr i
-expr_opens (number i) = ap opens_expr i
-expr_opens (truth i) = ap opens_expr i
-expr_opens (untruth i) = ap opens_expr i
-expr_opens (named_atom i) = ap opens_expr i
+expr_opens (leaf (number i)) = ap opens_expr i
+expr_opens (leaf (truth i)) = ap opens_expr i
+expr_opens (leaf (untruth i)) = ap opens_expr i
+expr_opens (leaf (named_atom i)) = ap opens_expr i
 expr_opens (indexed_atom i j r k) = ap opens_expr i
-expr_opens (part i j k) = ap opens_expr i
+expr_opens (leaf (part i j k)) = ap opens_expr i
 expr_opens (chosen {x} {o} i j r k q m) = choosing_opens x.sign o i
 expr_opens (group i r k) = ap opens_expr i
 

@@ -1,16 +1,16 @@
 -- Lists of forms, as a loop reads them.
 use Rattle.std.proofs.Common.{◌≡◌, ℕ, ◌≤◌, refl, sym, ◌∙◌, ap, subst, List, [], ◌∷◌, ◌++◌, append_assoc, append-nil, Option, Result, Ok, Err, drop, arith}
 use Rattle.tap_base.specs.declared.token.Sign.{Sign}
-use Rattle.tap_base.specs.Lexeme.{Lexeme}
+use Rattle.tap_lexer.specs.Lexeme.{Lexeme}
 use Rattle.tap_lexer.specs.declared.found.Found.{Found}
+use Rattle.tap_lexer.specs.inner.Reading.{Shows}
+use Rattle.tap_lexer.specs.inner.Reading.{Lacks, Free}
 use Rattle.tap_expr.specs.declared.found.Stuck.{Stuck}
 use Rattle.tap_parser.specs.declared.kept.Kept.{Kept}
 use Rattle.tap_parser.specs.declared.kept.Kept.TheVariants.{Whole, Large}
-use Rattle.tap_lexer.specs.Reading.{Shows}
-use Rattle.tap_parser.specs.Keeping.{both, mapped, listed, appended}
-use Rattle.tap_lexer.specs.Reading.{Lacks, Free}
-use Rattle.tap_parser.specs.Forms.{Begins}
-use Rattle.tap_parser.specs.Reading.{Answers}
+use Rattle.tap_parser.specs.inner.Keeping.{both, mapped, listed, appended}
+use Rattle.tap_parser.specs.inner.Forms.{Begins}
+use Rattle.tap_parser.specs.inner.Reading.{Answers}
 use Rattle.tap_parser.proofs.TextParts.{Form, Follow, Both, joined, renamed, both_answers, both_stuck, anywhere, begins_here, lacks_here, renamed_answers, empty_answers, begun}
 
 -- the further forms of a list, each with what stands before it

@@ -9,12 +9,13 @@ use Rattle.tap_base.specs.declared.ast.Bound.TheVariants as bound
 use Rattle.tap_base.specs.declared.ast.Ident.{Ident}
 use Rattle.tap_base.specs.declared.token.Sign.{Sign}
 use Rattle.tap_base.specs.declared.token.Sign.TheVariants as sign
-use Rattle.tap_base.specs.Declarations.{Optional, absent, present, Block, absent as no_block_there, present as block_there, IsName, name, IsNumber, number as plain_number, IsSigned, plain, negative, IsBound, number, name as bound_name, IsScalar, boolean, between, IsType, single, array}
-use Rattle.tap_base.specs.Lexeme.{Lexeme}
-use Rattle.tap_base.specs.SmallGrammar.{ident, Separated, last, more, SomeSeparated, none, some, Row}
-use Rattle.tap_lexer.specs.Reading.{Lacks, Free, Closed, closed, Only}
+use Rattle.tap_lexer.specs.Lexeme.{Lexeme}
+use Rattle.tap_lexer.specs.Leaves.{ident}
+use Rattle.tap_lexer.specs.Rows.{Separated, last, more, SomeSeparated, none, some, Row}
+use Rattle.tap_lexer.specs.inner.Reading.{Lacks, Free, Closed, closed, Only}
+use Rattle.tap_parser.specs.Declarations.{Optional, absent, present, Block, absent as no_block_there, present as block_there, IsName, name, IsNumber, number as plain_number, IsSigned, plain, negative, IsBound, number, name as bound_name, IsScalar, boolean, between, IsType, single, array}
 use Rattle.tap_parser.specs.declared.leaves.Numeral.{Numeral}
-use Rattle.tap_parser.specs.Forms.{Begins, IsNumeral, numeral}
+use Rattle.tap_parser.specs.inner.Forms.{Begins, IsNumeral, numeral}
 use Rattle.tap_parser.proofs.TextParts.{begun, Form, Follow, Both, After, after}
 use Rattle.tap_parser.proofs.TextBounds.{Number, Bounds, ToBound, OfScalar, unroll_minus, unroll_plain, unroll_named, unroll_counted, boolean_only, unroll_between, unroll_array, unroll_single}
 

@@ -16,16 +16,17 @@ use Rattle.tap_base.specs.declared.ast.AstTarget.{AstTarget}
 use Rattle.tap_base.specs.declared.ast.AstVar.{AstVar}
 use Rattle.tap_base.specs.declared.ast.Ident.{Ident}
 use Rattle.tap_base.specs.declared.token.Sign.TheVariants as sign
-use Rattle.tap_base.specs.Declarations.{IsName, name, IsConst, IsInput, IsVar, IsField, IsMessage, IsSigned, IsScalar, declared, declared as input_declared, declared as var_declared, declared as field_declared, declared as message_declared}
-use Rattle.tap_base.specs.Grammar.{expression}
-use Rattle.tap_base.specs.Lexeme.{Lexeme}
-use Rattle.tap_base.specs.SmallGrammar.{ident, Separated, last as last_item, more as more_items, Row, last as last_row, more as more_row, Rows, none, more as more_rows}
-use Rattle.tap_base.specs.Statements.{IsTarget, whole, element, IsStmt, skip, assign, choose, send, start, stop, select, repeat, AreStmts, last, more, IsBranch, guarded, AreBranches, final, further, IsGuard, local, receive, timeout, IsAction, guarded as action_guarded}
-use Rattle.tap_base.specs.Systems.{IsProcess, declared as process_declared, SpellsOver, system, Sized, OneText}
-use Rattle.tap_lexer.specs.Reading.{Lacks, Free, closed, Only}
-use Rattle.tap_expr.specs.ExprReading.{Stops}
+use Rattle.tap_lexer.specs.Lexeme.{Lexeme}
+use Rattle.tap_lexer.specs.Leaves.{ident}
+use Rattle.tap_lexer.specs.Rows.{Separated, last as last_item, more as more_items, Row, last as last_row, more as more_row, Rows, none, more as more_rows}
+use Rattle.tap_lexer.specs.inner.Reading.{Lacks, Free, closed, Only}
+use Rattle.tap_expr.specs.Grammar.{expression}
+use Rattle.tap_expr.specs.inner.ExprReading.{Stops}
 use Rattle.tap_expr.proofs.ExprOne.{one_reading}
-use Rattle.tap_parser.specs.Forms.{Begins, StmtStops, BodyStops, BranchesStop, Declared, AreDeclared, parts}
+use Rattle.tap_parser.specs.Declarations.{IsName, name, IsConst, IsInput, IsVar, IsField, IsMessage, IsSigned, IsScalar, declared, declared as input_declared, declared as var_declared, declared as field_declared, declared as message_declared}
+use Rattle.tap_parser.specs.Statements.{IsTarget, whole, element, IsStmt, skip, assign, choose, send, start, stop, select, repeat, AreStmts, last, more, IsBranch, guarded, AreBranches, final, further, IsGuard, local, receive, timeout, IsAction, guarded as action_guarded}
+use Rattle.tap_parser.specs.Systems.{IsProcess, declared as process_declared, SpellsOver, system, Sized, OneText}
+use Rattle.tap_parser.specs.inner.Forms.{Begins, StmtStops, BodyStops, BranchesStop, Declared, AreDeclared, parts}
 use Rattle.tap_parser.proofs.TextParts.{begun, Both, after}
 use Rattle.tap_parser.proofs.TextBounds.{Name, Number, Types}
 use Rattle.tap_parser.proofs.TextDeclared.{ToSigned, const_of, ToScalar, input_of, Initial, ToType, var_of, Fixed, ToFixed, ToWidth, field_of, FieldList, ToFields, NamedFields, message_of, message_begins, end_after_field, unroll_const, unroll_input, unroll_var, unroll_field, unroll_message}

@@ -2,19 +2,19 @@
 use Rattle.std.proofs.Common.{◌≡◌, ℕ, ◌+◌, ◌-◌, ◌<◌, ◌≤◌, refl, sym, ◌∙◌, ap, subst, List, [], ◌∷◌, Option, Some, None, true, Result, Ok, Err, IsErrAnd, drop, length, ltb-true, lt-ltb, arith}
 use Rattle.std.proofs.lemmas.List.{length-drop}
 use Rattle.tap_base.specs.declared.token.Sign.{Sign}
-use Rattle.tap_base.specs.Lexeme.{Lexeme}
+use Rattle.tap_lexer.specs.Lexeme.{Lexeme}
 use Rattle.tap_lexer.specs.declared.found.Found.{Found}
+use Rattle.tap_lexer.specs.inner.Reading.{Shows}
+use Rattle.tap_lexer.specs.inner.Reading.{Lacks, Never, Stands, Closed, closed, Free}
 use Rattle.tap_expr.specs.declared.found.Stuck.{Stuck}
 use Rattle.tap_expr.specs.declared.found.Stuck.TheVariants as stuck
+use Rattle.tap_expr.specs.inner.ExprReading.{Alike}
+use Rattle.tap_expr.proofs.ExprAlike.{less, shows_as, lacks_at, stands_as}
 use Rattle.tap_parser.specs.declared.kept.Kept.{Kept}
 use Rattle.tap_parser.specs.declared.kept.Kept.TheVariants.{Whole, Large}
-use Rattle.tap_expr.specs.ExprReading.{Alike}
-use Rattle.tap_lexer.specs.Reading.{Shows}
-use Rattle.tap_parser.specs.Keeping.{both, mapped}
-use Rattle.tap_lexer.specs.Reading.{Lacks, Never, Stands, Closed, closed, Free}
-use Rattle.tap_parser.specs.Forms.{Begins}
-use Rattle.tap_parser.specs.Reading.{IsReadOnce, Verdict, asks, Agrees, Lies, Answers, Tells, Expects}
-use Rattle.tap_expr.proofs.ExprAlike.{less, shows_as, lacks_at, stands_as}
+use Rattle.tap_parser.specs.inner.Keeping.{both, mapped}
+use Rattle.tap_parser.specs.inner.Forms.{Begins}
+use Rattle.tap_parser.specs.inner.Reading.{IsReadOnce, Verdict, asks, Agrees, Lies, Answers, Tells, Expects}
 
 abbrev pub Form : Type 0 → Type 1
 Form A = Option ℕ → A → List Lexeme → List Lexeme → Type 0

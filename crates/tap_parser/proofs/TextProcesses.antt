@@ -9,20 +9,21 @@ use Rattle.tap_base.specs.declared.ast.AstVar.{AstVar}
 use Rattle.tap_base.specs.declared.ast.Ident.{Ident}
 use Rattle.tap_base.specs.declared.token.Sign.{Sign}
 use Rattle.tap_base.specs.declared.token.Sign.TheVariants as sign
-use Rattle.tap_base.specs.Declarations.{Block, absent, present, IsName, name, IsConst, IsInput, IsVar, IsMessage}
-use Rattle.tap_base.specs.Lexeme.{Lexeme}
-use Rattle.tap_base.specs.SmallGrammar.{ident, SomeSeparated, Row, Rows, none, more, last}
-use Rattle.tap_base.specs.Statements.{IsAction}
-use Rattle.tap_base.specs.Systems.{IsProcess, declared, Sized}
+use Rattle.tap_lexer.specs.Lexeme.{Lexeme}
+use Rattle.tap_lexer.specs.Leaves.{ident}
+use Rattle.tap_lexer.specs.Rows.{SomeSeparated, Row, Rows, none, more, last}
 use Rattle.tap_lexer.specs.declared.found.Found.{Found}
+use Rattle.tap_lexer.specs.inner.Reading.{Shows}
+use Rattle.tap_lexer.specs.inner.Reading.{Lacks, Free, Closed, closed}
 use Rattle.tap_expr.specs.declared.found.Stuck.{Stuck}
+use Rattle.tap_parser.specs.Declarations.{Block, absent, present, IsName, name, IsConst, IsInput, IsVar, IsMessage}
+use Rattle.tap_parser.specs.Statements.{IsAction}
+use Rattle.tap_parser.specs.Systems.{IsProcess, declared, Sized}
 use Rattle.tap_parser.specs.declared.kept.Kept.{Kept}
 use Rattle.tap_parser.specs.declared.kept.Kept.TheVariants.{Whole, Large}
-use Rattle.tap_lexer.specs.Reading.{Shows}
-use Rattle.tap_parser.specs.Keeping.{both, mapped}
-use Rattle.tap_lexer.specs.Reading.{Lacks, Free, Closed, closed}
-use Rattle.tap_parser.specs.Forms.{Begins, Declared, AreDeclared, parts, AreSystem, system}
-use Rattle.tap_parser.specs.Reading.{Answers}
+use Rattle.tap_parser.specs.inner.Keeping.{both, mapped}
+use Rattle.tap_parser.specs.inner.Forms.{Begins, Declared, AreDeclared, parts, AreSystem, system}
+use Rattle.tap_parser.specs.inner.Reading.{Answers}
 use Rattle.tap_parser.proofs.TextParts.{Form, Follow, Both, renamed, After, after, anywhere, begins_here, lacks_here, renamed_answers, empty_answers, begun}
 use Rattle.tap_parser.proofs.TextBounds.{Name}
 use Rattle.tap_parser.proofs.TextDeclared.{message_begins}

@@ -8,25 +8,26 @@ use Rattle.tap_base.specs.declared.ast.AstTarget.{AstTarget}
 use Rattle.tap_base.specs.declared.ast.Ident.{Ident}
 use Rattle.tap_base.specs.declared.token.Sign.{Sign}
 use Rattle.tap_base.specs.declared.token.Sign.TheVariants as sign
-use Rattle.tap_base.specs.Declarations.{IsName, name}
-use Rattle.tap_base.specs.Grammar.{expression}
-use Rattle.tap_base.specs.Lexeme.{Lexeme}
-use Rattle.tap_base.specs.SmallGrammar.{ident, Separated, SomeSeparated}
-use Rattle.tap_base.specs.Statements.{IsTarget, IsStmt, skip, assign, choose, send, start, stop, select, repeat, AreBranches}
-use Rattle.tap_base.specs.Systems.{Sized}
+use Rattle.tap_lexer.specs.Lexeme.{Lexeme}
+use Rattle.tap_lexer.specs.Leaves.{ident}
+use Rattle.tap_lexer.specs.Rows.{Separated, SomeSeparated}
 use Rattle.tap_lexer.specs.declared.found.Found.{Found}
+use Rattle.tap_lexer.specs.inner.Reading.{Shows}
+use Rattle.tap_lexer.specs.inner.Reading.{Lacks, Free, Closed, closed, Stands}
+use Rattle.tap_expr.specs.Grammar.{expression}
 use Rattle.tap_expr.specs.declared.found.Stuck.{Stuck}
 use Rattle.tap_expr.specs.declared.found.Stuck.TheVariants as stuck
+use Rattle.tap_expr.specs.inner.ExprReading.{Stops}
+use Rattle.tap_expr.proofs.ExprAlike.{stands_as, empty_at}
+use Rattle.tap_parser.specs.Declarations.{IsName, name}
+use Rattle.tap_parser.specs.Statements.{IsTarget, IsStmt, skip, assign, choose, send, start, stop, select, repeat, AreBranches}
+use Rattle.tap_parser.specs.Systems.{Sized}
 use Rattle.tap_parser.specs.declared.kept.Kept.{Kept}
 use Rattle.tap_parser.specs.declared.kept.Kept.TheVariants.{Whole, Large}
 use Rattle.tap_parser.specs.declared.leaves.Numeral.{Numeral}
-use Rattle.tap_expr.specs.ExprReading.{Stops}
-use Rattle.tap_lexer.specs.Reading.{Shows}
-use Rattle.tap_parser.specs.Keeping.{both, mapped}
-use Rattle.tap_lexer.specs.Reading.{Lacks, Free, Closed, closed, Stands}
-use Rattle.tap_parser.specs.Forms.{Begins, numeral, StmtStops}
-use Rattle.tap_parser.specs.Reading.{Answers}
-use Rattle.tap_expr.proofs.ExprAlike.{stands_as, empty_at}
+use Rattle.tap_parser.specs.inner.Keeping.{both, mapped}
+use Rattle.tap_parser.specs.inner.Forms.{Begins, numeral, StmtStops}
+use Rattle.tap_parser.specs.inner.Reading.{Answers}
 use Rattle.tap_parser.proofs.TextParts.{Form, Follow, Both, renamed, After, after, Here, begins_here, renamed_answers, fails, token_answers}
 use Rattle.tap_parser.proofs.TextBounds.{Name, Number}
 use Rattle.tap_parser.proofs.TextExprs.{no_index, targets_begin}

@@ -2,10 +2,10 @@
 use Rattle.std.proofs.Common.{ℕ, List, Option, Some, None}
 use Rattle.tap_base.specs.declared.ast.Ast.{Ast}
 use Rattle.tap_base.specs.declared.ast.AstExpr.{AstExpr}
-use Rattle.tap_base.specs.Grammar.{Reads, expression}
-use Rattle.tap_base.specs.Lexeme.{Lexeme}
-use Rattle.tap_base.specs.Systems.{SpellsOver, Sized, SpellsText}
-use Rattle.tap_base.proofs.Weaker.{weaker}
+use Rattle.tap_lexer.specs.Lexeme.{Lexeme}
+use Rattle.tap_expr.specs.Grammar.{Reads, expression}
+use Rattle.tap_parser.specs.Systems.{SpellsOver, Sized, SpellsText}
+use Rattle.tap_parser.proofs.Weaker.{weaker}
 
 asked_less : (n : Option ℕ) (e : AstExpr) (ts us : List Lexeme) → Sized n e ts us → Reads expression e ts us
 asked_less None e ts us r = r

@@ -5,22 +5,22 @@ use Rattle.std.proofs.lemmas.List.{drop_all, length-map, length-drop}
 use Rattle.tap_base.specs.declared.ast.Ast.{Ast}
 use Rattle.tap_base.specs.declared.token.Sign.TheVariants as sign
 use Rattle.tap_base.specs.declared.token.Token.{Token}
-use Rattle.tap_base.specs.Lexeme.{Lexeme, lexeme, lexemes}
-use Rattle.tap_base.specs.Systems.{IsProcess, SpellsOver, system, Sized, SpellsText, SpellsTo, IsUntold}
-use Rattle.tap_base.specs.SmallGrammar.{Row}
+use Rattle.tap_lexer.specs.Lexeme.{Lexeme, lexeme, lexemes}
+use Rattle.tap_lexer.specs.Rows.{Row}
 use Rattle.tap_lexer.specs.declared.found.Found.{Found}
+use Rattle.tap_lexer.specs.inner.Reading.{Lacks}
 use Rattle.tap_expr.specs.declared.found.Stuck.{Stuck}
 use Rattle.tap_expr.specs.declared.found.Stuck.TheVariants as stuck
-use Rattle.tap_parser.specs.declared.kept.Kept.{Kept}
-use Rattle.tap_parser.specs.declared.kept.Kept.TheVariants.{Whole, Large}
-use Rattle.tap_expr.specs.ExprReading.{Alike}
-use Rattle.tap_lexer.specs.Reading.{Lacks}
-use Rattle.tap_parser.specs.Forms.{AreSystem, system as read_system}
-use Rattle.tap_parser.specs.Reading.{Verdict, asks, Agrees, Answers}
-use Rattle.tap_parser.specs.Texts.{SystemAnswers}
+use Rattle.tap_expr.specs.inner.ExprReading.{Alike}
 use Rattle.tap_expr.proofs.ExprAlike.{longer_as}
 use Rattle.tap_expr.proofs.ExprStopped.{before_end}
 use Rattle.tap_expr.proofs.ExprWholes.{front_alike}
+use Rattle.tap_parser.specs.Systems.{IsProcess, SpellsOver, system, Sized, SpellsText, SpellsTo, IsUntold}
+use Rattle.tap_parser.specs.declared.kept.Kept.{Kept}
+use Rattle.tap_parser.specs.declared.kept.Kept.TheVariants.{Whole, Large}
+use Rattle.tap_parser.specs.inner.Forms.{AreSystem, system as read_system}
+use Rattle.tap_parser.specs.inner.Reading.{Verdict, asks, Agrees, Answers}
+use Rattle.tap_parser.specs.inner.Texts.{SystemAnswers}
 use Rattle.tap_parser.proofs.TextProcesses.{Systems}
 use Rattle.tap_parser.proofs.TextWeaker.{unasked, asked_none}
 

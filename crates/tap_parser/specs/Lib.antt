@@ -1,4 +1,4 @@
-pub mod Forms
-pub mod Keeping
-pub mod Reading
-pub mod Texts
+pub mod Declarations
+pub mod Statements
+pub mod Systems
+pub mod inner

@@ -1,14 +1,15 @@
 //! Guards, and the actions that they begin.
 
-ghost use Rattle.tap_base.specs.Grammar.{expression};
-ghost use Rattle.tap_base.specs.Lexeme.{lexemes};
-ghost use Rattle.tap_base.specs.Spans.{AreTexts};
-ghost use Rattle.tap_base.specs.Statements.{IsAction, IsGuard};
-ghost use Rattle.tap_base.specs.Systems.{Sized};
-ghost use Rattle.tap_expr.specs.ExprReading.{Stops};
-ghost use Rattle.tap_lexer.specs.Reading.{Shows};
-ghost use Rattle.tap_parser.specs.Forms.{BodyStops};
-ghost use Rattle.tap_parser.specs.Reading.{Answers};
+ghost use Rattle.tap_lexer.specs.Depth.{IsShallow};
+ghost use Rattle.tap_lexer.specs.Lexeme.{lexemes};
+ghost use Rattle.tap_lexer.specs.Spans.{AreTexts};
+ghost use Rattle.tap_lexer.specs.inner.Reading.{Shows};
+ghost use Rattle.tap_expr.specs.Grammar.{expression};
+ghost use Rattle.tap_expr.specs.inner.ExprReading.{Stops};
+ghost use Rattle.tap_parser.specs.Statements.{IsAction, IsGuard};
+ghost use Rattle.tap_parser.specs.Systems.{Sized};
+ghost use Rattle.tap_parser.specs.inner.Forms.{BodyStops};
+ghost use Rattle.tap_parser.specs.inner.Reading.{Answers};
 
 use crate::exprs::read_expr;
 use crate::kept::Kept;
@@ -21,7 +22,8 @@ use tap_lexer::{Found, Source};
 
 /// A guard, `->` and statements. The action stands at its first token.
 pub fn read_action(source: &Source, at: usize) -> Result<Found<Kept<AstAction>>, Stuck>
-    requires { AreTexts source.now.text.now source.now.tokens.now }
+    requires texts { AreTexts source.now.text.now source.now.tokens.now }
+    requires shallow { IsShallow (lexemes source.now.text.now source.now.tokens.now) }
     ensures { Answers (λ n. IsAction (Sized n)) BodyStops (lexemes source.now.text.now source.now.tokens.now) at result }
 {
     let Some(token) = source.token(at) else {
@@ -38,7 +40,8 @@ pub fn read_action(source: &Source, at: usize) -> Result<Found<Kept<AstAction>>,
 
 /// A receive, a timeout, or an expression.
 fn read_guard(source: &Source, at: usize) -> Result<Found<Kept<AstGuard>>, Stuck>
-    requires { AreTexts source.now.text.now source.now.tokens.now }
+    requires texts { AreTexts source.now.text.now source.now.tokens.now }
+    requires shallow { IsShallow (lexemes source.now.text.now source.now.tokens.now) }
     ensures { Answers (λ n. IsGuard (Sized n)) (Stops expression)
         (lexemes source.now.text.now source.now.tokens.now) at result }
 {

@@ -1,10 +1,10 @@
 //! Numbers with a sign, bounds, and the ranges between them.
 
-ghost use Rattle.tap_base.specs.Declarations.{IsSigned, IsBound, IsScalar, IsType};
-ghost use Rattle.tap_base.specs.Lexeme.{lexemes};
-ghost use Rattle.tap_base.specs.Spans.{AreTexts};
-ghost use Rattle.tap_lexer.specs.Reading.{Free};
-ghost use Rattle.tap_parser.specs.Reading.{Tells};
+ghost use Rattle.tap_lexer.specs.Lexeme.{lexemes};
+ghost use Rattle.tap_lexer.specs.Spans.{AreTexts};
+ghost use Rattle.tap_lexer.specs.inner.Reading.{Free};
+ghost use Rattle.tap_parser.specs.Declarations.{IsSigned, IsBound, IsScalar, IsType};
+ghost use Rattle.tap_parser.specs.inner.Reading.{Tells};
 
 use crate::leaves::{expect, read_name, read_numeral};
 use tap_base::{AstScalar, AstType, Bound, Sign};

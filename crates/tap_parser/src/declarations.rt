@@ -1,10 +1,11 @@
 //! Fields of messages, and messages.
 
-ghost use Rattle.tap_base.specs.Declarations.{IsField, IsMessage, IsNumber, Optional};
-ghost use Rattle.tap_base.specs.Lexeme.{lexemes};
-ghost use Rattle.tap_base.specs.Spans.{AreTexts};
-ghost use Rattle.tap_lexer.specs.Reading.{Free, Lacks};
-ghost use Rattle.tap_parser.specs.Reading.{Answers, Tells};
+ghost use Rattle.tap_lexer.specs.Depth.{IsShallow};
+ghost use Rattle.tap_lexer.specs.Lexeme.{lexemes};
+ghost use Rattle.tap_lexer.specs.Spans.{AreTexts};
+ghost use Rattle.tap_lexer.specs.inner.Reading.{Free, Lacks};
+ghost use Rattle.tap_parser.specs.Declarations.{IsField, IsMessage, IsNumber, Optional};
+ghost use Rattle.tap_parser.specs.inner.Reading.{Answers, Tells};
 
 use crate::forms::Field;
 use crate::kept::Kept;
@@ -56,7 +57,8 @@ fn read_fixed(source: &Source, at: usize) -> Result<Found<Option<i64>>, Stuck>
 
 /// A message with its fields.
 pub fn read_message(source: &Source, at: usize) -> Result<Found<Kept<AstMessage>>, Stuck>
-    requires { AreTexts source.now.text.now source.now.tokens.now }
+    requires texts { AreTexts source.now.text.now source.now.tokens.now }
+    requires shallow { IsShallow (lexemes source.now.text.now source.now.tokens.now) }
     ensures { Answers (λ n. IsMessage) Free (lexemes source.now.text.now source.now.tokens.now) at result }
 {
     let behind = expect(source, Sign::Message, at)?;

@@ -1,15 +1,16 @@
 //! Expressions and targets, with what is kept of them.
 
 ghost use Rattle.std.specs.Prelude.{◌≡◌};
-ghost use Rattle.tap_base.specs.Grammar.{expression};
-ghost use Rattle.tap_base.specs.Lexeme.{lexemes};
-ghost use Rattle.tap_base.specs.Spans.{AreTexts};
-ghost use Rattle.tap_base.specs.Statements.{IsTarget};
-ghost use Rattle.tap_base.specs.Systems.{Sized};
-ghost use Rattle.tap_expr.specs.ExprReading.{Stops};
-ghost use Rattle.tap_parser.specs.Keeping.{kept_of};
-ghost use Rattle.tap_lexer.specs.Reading.{Lacks};
-ghost use Rattle.tap_parser.specs.Reading.{Answers};
+ghost use Rattle.tap_lexer.specs.Depth.{IsShallow};
+ghost use Rattle.tap_lexer.specs.Lexeme.{lexemes};
+ghost use Rattle.tap_lexer.specs.Spans.{AreTexts};
+ghost use Rattle.tap_lexer.specs.inner.Reading.{Lacks};
+ghost use Rattle.tap_expr.specs.Grammar.{expression};
+ghost use Rattle.tap_expr.specs.inner.ExprReading.{Stops};
+ghost use Rattle.tap_parser.specs.Statements.{IsTarget};
+ghost use Rattle.tap_parser.specs.Systems.{Sized};
+ghost use Rattle.tap_parser.specs.inner.Keeping.{kept_of};
+ghost use Rattle.tap_parser.specs.inner.Reading.{Answers};
 
 use crate::kept::Kept;
 use crate::leaves::{expect, read_name};
@@ -20,7 +21,8 @@ use tap_lexer::{Found, Source};
 
 /// An expression.
 pub fn read_expr(source: &Source, at: usize) -> Result<Found<Kept<AstExpr>>, Stuck>
-    requires { AreTexts source.now.text.now source.now.tokens.now }
+    requires texts { AreTexts source.now.text.now source.now.tokens.now }
+    requires shallow { IsShallow (lexemes source.now.text.now source.now.tokens.now) }
     ensures { Answers Sized (Stops expression) (lexemes source.now.text.now source.now.tokens.now) at result }
 {
     let found = read_built(source, at)?;
@@ -42,7 +44,8 @@ fn kept(built: Built, at: usize) -> Kept<AstExpr>
 
 /// A variable, or an element of an array.
 pub fn read_target(source: &Source, at: usize) -> Result<Found<Kept<AstTarget>>, Stuck>
-    requires { AreTexts source.now.text.now source.now.tokens.now }
+    requires texts { AreTexts source.now.text.now source.now.tokens.now }
+    requires shallow { IsShallow (lexemes source.now.text.now source.now.tokens.now) }
     ensures { Answers (λ n. IsTarget (Sized n)) (Lacks Sign.OpenIndex)
         (lexemes source.now.text.now source.now.tokens.now) at result }
 {

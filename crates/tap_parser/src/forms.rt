@@ -2,16 +2,17 @@
 
 ghost use Rattle.std.specs.Prelude.{ℕ, List, Option};
 ghost use Rattle.tap_base.specs.declared.token.Sign.TheVariants as sign;
-ghost use Rattle.tap_base.specs.Declarations.{IsConst, IsField, IsInput, IsMessage, IsName, IsVar};
-ghost use Rattle.tap_base.specs.Grammar.{expression};
-ghost use Rattle.tap_base.specs.Lexeme.{Lexeme, lexemes};
-ghost use Rattle.tap_base.specs.Spans.{AreTexts};
-ghost use Rattle.tap_base.specs.Statements.{IsAction, IsTarget};
-ghost use Rattle.tap_base.specs.Systems.{IsProcess, Sized};
-ghost use Rattle.tap_expr.specs.ExprReading.{Stops};
-ghost use Rattle.tap_lexer.specs.Reading.{Free, Lacks};
-ghost use Rattle.tap_parser.specs.Forms.{BodyStops};
-ghost use Rattle.tap_parser.specs.Reading.{Answers};
+ghost use Rattle.tap_lexer.specs.Depth.{IsShallow};
+ghost use Rattle.tap_lexer.specs.Lexeme.{Lexeme, lexemes};
+ghost use Rattle.tap_lexer.specs.Spans.{AreTexts};
+ghost use Rattle.tap_lexer.specs.inner.Reading.{Free, Lacks};
+ghost use Rattle.tap_expr.specs.Grammar.{expression};
+ghost use Rattle.tap_expr.specs.inner.ExprReading.{Stops};
+ghost use Rattle.tap_parser.specs.Declarations.{IsConst, IsField, IsInput, IsMessage, IsName, IsVar};
+ghost use Rattle.tap_parser.specs.Statements.{IsAction, IsTarget};
+ghost use Rattle.tap_parser.specs.Systems.{IsProcess, Sized};
+ghost use Rattle.tap_parser.specs.inner.Forms.{BodyStops};
+ghost use Rattle.tap_parser.specs.inner.Reading.{Answers};
 
 use crate::actions::read_action;
 use crate::declarations::{read_field, read_message};
@@ -37,7 +38,8 @@ pub trait Form {
 
     /// The form at a place.
     fn read(source: &Source, at: usize) -> Result<Found<Kept<Self::Value>>, Stuck>
-        requires { AreTexts source.now.text.now source.now.tokens.now }
+        requires texts { AreTexts source.now.text.now source.now.tokens.now }
+        requires shallow { IsShallow (lexemes source.now.text.now source.now.tokens.now) }
         ensures { Answers spelled stops (lexemes source.now.text.now source.now.tokens.now) at result };
 }
 

@@ -1,8 +1,8 @@
 //! What is kept of a form with expressions in it.
 
 ghost use Rattle.std.specs.Prelude.{◌≡◌, IfOk};
-ghost use Rattle.tap_parser.specs.Keeping.{both, listed, appended};
-ghost use Rattle.tap_parser.specs.Reading.{whole};
+ghost use Rattle.tap_parser.specs.inner.Keeping.{both, listed, appended};
+ghost use Rattle.tap_parser.specs.inner.Reading.{whole};
 
 use std::alloc::Global;
 use tap_base::{List, NoMemory};

@@ -1,6 +1,6 @@
 //! What the grammar of whole texts promises by itself.
 
-ghost use Rattle.tap_base.specs.Systems.{OneText, OneTextEnd, OneTextFront};
+ghost use Rattle.tap_parser.specs.Systems.{OneText, OneTextEnd, OneTextFront};
 
 /// Tokens spell at most one tree.
 pub fn one_text()

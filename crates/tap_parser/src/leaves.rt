@@ -1,12 +1,12 @@
 //! Single tokens.
 
 ghost use Rattle.std.specs.Prelude.{pos, ◌≤ℤ◌, IfOk};
-ghost use Rattle.tap_base.specs.Declarations.{IsName};
-ghost use Rattle.tap_base.specs.Lexeme.{lexemes};
-ghost use Rattle.tap_base.specs.Spans.{AreTexts};
-ghost use Rattle.tap_lexer.specs.Reading.{Free};
-ghost use Rattle.tap_parser.specs.Forms.{IsNumeral};
-ghost use Rattle.tap_parser.specs.Reading.{Expects, Tells};
+ghost use Rattle.tap_lexer.specs.Lexeme.{lexemes};
+ghost use Rattle.tap_lexer.specs.Spans.{AreTexts};
+ghost use Rattle.tap_lexer.specs.inner.Reading.{Free};
+ghost use Rattle.tap_parser.specs.Declarations.{IsName};
+ghost use Rattle.tap_parser.specs.inner.Forms.{IsNumeral};
+ghost use Rattle.tap_parser.specs.inner.Reading.{Expects, Tells};
 
 use tap_base::{Ident, Place, Sign};
 use tap_expr::Stuck;

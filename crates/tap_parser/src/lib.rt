@@ -14,8 +14,6 @@ mod nodes;
 mod processes;
 mod simple;
 mod stmts;
-#[cfg(test)]
-mod tests;
 mod vars;
 mod whole;
 

@@ -1,13 +1,14 @@
 //! Lists of forms.
 
 ghost use Rattle.std.specs.Prelude.{◌≡◌, ◌∷◌, [], ℕ, List, Option};
-ghost use Rattle.tap_base.specs.Declarations.{Block};
-ghost use Rattle.tap_base.specs.Lexeme.{Lexeme, lexemes};
-ghost use Rattle.tap_base.specs.SmallGrammar.{Separated, SomeSeparated, Row};
-ghost use Rattle.tap_base.specs.Spans.{AreTexts};
-ghost use Rattle.tap_lexer.specs.Reading.{Closed, Free, Lacks};
-ghost use Rattle.tap_parser.specs.Forms.{Begins};
-ghost use Rattle.tap_parser.specs.Reading.{Answers};
+ghost use Rattle.tap_lexer.specs.Depth.{IsShallow};
+ghost use Rattle.tap_lexer.specs.Lexeme.{Lexeme, lexemes};
+ghost use Rattle.tap_lexer.specs.Rows.{Separated, SomeSeparated, Row};
+ghost use Rattle.tap_lexer.specs.Spans.{AreTexts};
+ghost use Rattle.tap_lexer.specs.inner.Reading.{Closed, Free, Lacks};
+ghost use Rattle.tap_parser.specs.Declarations.{Block};
+ghost use Rattle.tap_parser.specs.inner.Forms.{Begins};
+ghost use Rattle.tap_parser.specs.inner.Reading.{Answers};
 
 use crate::forms::Form;
 use crate::kept::{Kept, appended, listed};
@@ -23,6 +24,7 @@ pub fn read_separated<F: Form>(
     at: usize,
 ) -> Result<Found<Kept<List<F::Value>>>, Stuck>
     requires texts { AreTexts source.now.text.now source.now.tokens.now }
+    requires shallow { IsShallow (lexemes source.now.text.now source.now.tokens.now) }
     requires parted { (x : Lexeme) (us : List Lexeme) → x.sign ≡ separator → F.stops (x ∷ us) }
     ensures { Answers (λ n. Separated (F.spelled n) separator) (λ us. F.stops us × Lacks separator us)
         (lexemes source.now.text.now source.now.tokens.now) at result }
@@ -46,6 +48,7 @@ pub fn read_block<F: Form>(
     at: usize,
 ) -> Result<Found<Kept<List<F::Value>>>, Stuck>
     requires texts { AreTexts source.now.text.now source.now.tokens.now }
+    requires shallow { IsShallow (lexemes source.now.text.now source.now.tokens.now) }
     requires parted { (x : Lexeme) (us : List Lexeme) → x.sign ≡ separator → F.stops (x ∷ us) }
     ensures { Answers (λ n. Block (F.spelled n) word separator)
         (λ us. (F.stops us × Lacks separator us) × Lacks word us)
@@ -68,6 +71,7 @@ pub fn read_until<F: Form>(
     at: usize,
 ) -> Result<Found<Kept<List<F::Value>>>, Stuck>
     requires texts { AreTexts source.now.text.now source.now.tokens.now }
+    requires shallow { IsShallow (lexemes source.now.text.now source.now.tokens.now) }
     requires parted { (x : Lexeme) (us : List Lexeme) → x.sign ≡ separator → F.stops (x ∷ us) }
     requires closed { (x : Lexeme) (us : List Lexeme) → x.sign ≡ close → F.stops (x ∷ us) × (x.sign ≡ separator → ⊥) }
     requires apart { (n : Option ℕ) (a : F.Value) (x : Lexeme) (ts us : List Lexeme) → x.sign ≡ close → F.spelled n a (x ∷ ts) us → ⊥ }
@@ -95,6 +99,7 @@ pub fn read_row<F: Form>(
     at: usize,
 ) -> Result<Found<Kept<List<F::Value>>>, Stuck>
     requires texts { AreTexts source.now.text.now source.now.tokens.now }
+    requires shallow { IsShallow (lexemes source.now.text.now source.now.tokens.now) }
     requires free { (us : List Lexeme) → F.stops us }
     requires begun { (n : Option ℕ) (a : F.Value) (ts us : List Lexeme) → F.spelled n a ts us → Begins word ts }
     requires longer { (n : Option ℕ) (a : F.Value) (x : Lexeme) (us : List Lexeme) → F.spelled n a (x ∷ []) us → ⊥ }

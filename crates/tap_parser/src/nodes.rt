@@ -1,7 +1,7 @@
 //! Nodes of trees, as long as no expression in them is too large.
 
 ghost use Rattle.std.specs.Prelude.{◌≡◌, Some, None};
-ghost use Rattle.tap_parser.specs.Keeping.{both, mapped};
+ghost use Rattle.tap_parser.specs.inner.Keeping.{both, mapped};
 ghost use Rattle.tap_parser.specs.declared.kept.Kept.TheVariants.{Whole};
 
 use crate::kept::Kept;

@@ -1,13 +1,14 @@
 //! Processes, and the messages and processes of a system.
 
-ghost use Rattle.tap_base.specs.Lexeme.{lexemes};
-ghost use Rattle.tap_base.specs.Declarations.{IsMessage};
-ghost use Rattle.tap_base.specs.SmallGrammar.{Rows};
-ghost use Rattle.tap_base.specs.Spans.{AreTexts};
-ghost use Rattle.tap_base.specs.Systems.{IsProcess, Sized};
-ghost use Rattle.tap_lexer.specs.Reading.{Free, Lacks};
-ghost use Rattle.tap_parser.specs.Forms.{AreDeclared, AreSystem};
-ghost use Rattle.tap_parser.specs.Reading.{Answers};
+ghost use Rattle.tap_lexer.specs.Depth.{IsShallow};
+ghost use Rattle.tap_lexer.specs.Lexeme.{lexemes};
+ghost use Rattle.tap_lexer.specs.Rows.{Rows};
+ghost use Rattle.tap_lexer.specs.Spans.{AreTexts};
+ghost use Rattle.tap_lexer.specs.inner.Reading.{Free, Lacks};
+ghost use Rattle.tap_parser.specs.Declarations.{IsMessage};
+ghost use Rattle.tap_parser.specs.Systems.{IsProcess, Sized};
+ghost use Rattle.tap_parser.specs.inner.Forms.{AreDeclared, AreSystem};
+ghost use Rattle.tap_parser.specs.inner.Reading.{Answers};
 
 use crate::forms::{Action, Constant, Input, Message, Process, Timer, Variable};
 use crate::kept::Kept;
@@ -20,7 +21,8 @@ use tap_lexer::{Found, Source};
 
 /// `process`, a name, and what is declared.
 pub fn read_process(source: &Source, at: usize) -> Result<Found<Kept<AstProcess>>, Stuck>
-    requires { AreTexts source.now.text.now source.now.tokens.now }
+    requires texts { AreTexts source.now.text.now source.now.tokens.now }
+    requires shallow { IsShallow (lexemes source.now.text.now source.now.tokens.now) }
     ensures { Answers (λ n. IsProcess (Sized n)) Free (lexemes source.now.text.now source.now.tokens.now) at result }
 {
     let behind = expect(source, Sign::Process, at)?;
@@ -34,7 +36,8 @@ pub fn read_process(source: &Source, at: usize) -> Result<Found<Kept<AstProcess>
 
 /// Constants, inputs, variables, timers, `begin`, actions, and `end`.
 fn read_declared(source: &Source, at: usize) -> Result<Found<Kept<Declared>>, Stuck>
-    requires { AreTexts source.now.text.now source.now.tokens.now }
+    requires texts { AreTexts source.now.text.now source.now.tokens.now }
+    requires shallow { IsShallow (lexemes source.now.text.now source.now.tokens.now) }
     ensures { Answers (λ n. AreDeclared (Sized n)) Free (lexemes source.now.text.now source.now.tokens.now) at result }
 {
     let consts = read_block::<Constant>(source, Sign::Const, Sign::Semicolon, at)?;
@@ -52,7 +55,8 @@ fn read_declared(source: &Source, at: usize) -> Result<Found<Kept<Declared>>, St
 
 /// The messages that begin a system.
 fn read_messages(source: &Source, at: usize) -> Result<Found<Kept<List<AstMessage>>>, Stuck>
-    requires { AreTexts source.now.text.now source.now.tokens.now }
+    requires texts { AreTexts source.now.text.now source.now.tokens.now }
+    requires shallow { IsShallow (lexemes source.now.text.now source.now.tokens.now) }
     ensures { Answers (λ n. Rows IsMessage) (Lacks Sign.Message)
         (lexemes source.now.text.now source.now.tokens.now) at result }
 {
@@ -67,7 +71,8 @@ fn read_messages(source: &Source, at: usize) -> Result<Found<Kept<List<AstMessag
 
 /// Messages and processes.
 pub fn read_system(source: &Source, at: usize) -> Result<Found<Kept<Ast>>, Stuck>
-    requires { AreTexts source.now.text.now source.now.tokens.now }
+    requires texts { AreTexts source.now.text.now source.now.tokens.now }
+    requires shallow { IsShallow (lexemes source.now.text.now source.now.tokens.now) }
     ensures { Answers (λ n. AreSystem (Sized n)) (Lacks Sign.Process)
         (lexemes source.now.text.now source.now.tokens.now) at result }
 {

@@ -1,12 +1,13 @@
 //! Statements without statements in them.
 
-ghost use Rattle.tap_base.specs.Lexeme.{lexemes};
-ghost use Rattle.tap_base.specs.Spans.{AreTexts};
-ghost use Rattle.tap_base.specs.Statements.{IsStmt};
-ghost use Rattle.tap_base.specs.Systems.{Sized};
-ghost use Rattle.tap_lexer.specs.Reading.{Shows};
-ghost use Rattle.tap_parser.specs.Forms.{StmtStops};
-ghost use Rattle.tap_parser.specs.Reading.{Answers};
+ghost use Rattle.tap_lexer.specs.Depth.{IsShallow};
+ghost use Rattle.tap_lexer.specs.Lexeme.{lexemes};
+ghost use Rattle.tap_lexer.specs.Spans.{AreTexts};
+ghost use Rattle.tap_lexer.specs.inner.Reading.{Shows};
+ghost use Rattle.tap_parser.specs.Statements.{IsStmt};
+ghost use Rattle.tap_parser.specs.Systems.{Sized};
+ghost use Rattle.tap_parser.specs.inner.Forms.{StmtStops};
+ghost use Rattle.tap_parser.specs.inner.Reading.{Answers};
 
 use crate::exprs::{read_expr, read_target};
 use crate::forms::{Expression, Target};
@@ -21,6 +22,7 @@ use tap_lexer::{Found, Source};
 /// Targets, `:=` and values.
 pub fn read_assignment(source: &Source, at: usize) -> Result<Found<Kept<AstStmt>>, Stuck>
     requires texts { AreTexts source.now.text.now source.now.tokens.now }
+    requires shallow { IsShallow (lexemes source.now.text.now source.now.tokens.now) }
     requires shows { Shows Sign.Name (lexemes source.now.text.now source.now.tokens.now) at }
     ensures { Answers (λ n. IsStmt (Sized n)) StmtStops (lexemes source.now.text.now source.now.tokens.now) at result }
 {
@@ -36,6 +38,7 @@ pub fn read_assignment(source: &Source, at: usize) -> Result<Found<Kept<AstStmt>
 /// `choose` and its target.
 pub fn read_choice(source: &Source, at: usize) -> Result<Found<Kept<AstStmt>>, Stuck>
     requires texts { AreTexts source.now.text.now source.now.tokens.now }
+    requires shallow { IsShallow (lexemes source.now.text.now source.now.tokens.now) }
     requires shows { Shows Sign.Choose (lexemes source.now.text.now source.now.tokens.now) at }
     ensures { Answers (λ n. IsStmt (Sized n)) StmtStops (lexemes source.now.text.now source.now.tokens.now) at result }
 {
@@ -50,6 +53,7 @@ pub fn read_choice(source: &Source, at: usize) -> Result<Found<Kept<AstStmt>>, S
 /// `send`, the message with its values, and the receiver.
 pub fn read_send(source: &Source, at: usize) -> Result<Found<Kept<AstStmt>>, Stuck>
     requires texts { AreTexts source.now.text.now source.now.tokens.now }
+    requires shallow { IsShallow (lexemes source.now.text.now source.now.tokens.now) }
     requires shows { Shows Sign.Send (lexemes source.now.text.now source.now.tokens.now) at }
     ensures { Answers (λ n. IsStmt (Sized n)) StmtStops (lexemes source.now.text.now source.now.tokens.now) at result }
 {
@@ -68,6 +72,7 @@ pub fn read_send(source: &Source, at: usize) -> Result<Found<Kept<AstStmt>>, Stu
 /// `start`, the timer and its delay.
 pub fn read_start(source: &Source, at: usize) -> Result<Found<Kept<AstStmt>>, Stuck>
     requires texts { AreTexts source.now.text.now source.now.tokens.now }
+    requires shallow { IsShallow (lexemes source.now.text.now source.now.tokens.now) }
     requires shows { Shows Sign.Start (lexemes source.now.text.now source.now.tokens.now) at }
     ensures { Answers (λ n. IsStmt (Sized n)) StmtStops (lexemes source.now.text.now source.now.tokens.now) at result }
 {

@@ -1,12 +1,13 @@
 //! Statements, and the branches in which statements stand.
 
-ghost use Rattle.tap_base.specs.Lexeme.{lexemes};
-ghost use Rattle.tap_base.specs.Spans.{AreTexts};
-ghost use Rattle.tap_base.specs.Statements.{AreBranches, AreStmts, IsBranch, IsStmt};
-ghost use Rattle.tap_base.specs.Systems.{Sized};
-ghost use Rattle.tap_lexer.specs.Reading.{Shows};
-ghost use Rattle.tap_parser.specs.Forms.{BodyStops, BranchesStop, StmtStops};
-ghost use Rattle.tap_parser.specs.Reading.{Answers};
+ghost use Rattle.tap_lexer.specs.Depth.{IsShallow};
+ghost use Rattle.tap_lexer.specs.Lexeme.{lexemes};
+ghost use Rattle.tap_lexer.specs.Spans.{AreTexts};
+ghost use Rattle.tap_lexer.specs.inner.Reading.{Shows};
+ghost use Rattle.tap_parser.specs.Statements.{AreBranches, AreStmts, IsBranch, IsStmt};
+ghost use Rattle.tap_parser.specs.Systems.{Sized};
+ghost use Rattle.tap_parser.specs.inner.Forms.{BodyStops, BranchesStop, StmtStops};
+ghost use Rattle.tap_parser.specs.inner.Reading.{Answers};
 
 use crate::exprs::read_expr;
 use crate::kept::{Kept, appended, listed};
@@ -20,7 +21,8 @@ use tap_lexer::{Found, Source};
 /// Statements with `;` between them.
 #[cycle(stmts)]
 pub fn read_stmts(source: &Source, at: usize) -> Result<Found<Kept<List<AstStmt>>>, Stuck>
-    requires { AreTexts source.now.text.now source.now.tokens.now }
+    requires texts { AreTexts source.now.text.now source.now.tokens.now }
+    requires shallow { IsShallow (lexemes source.now.text.now source.now.tokens.now) }
     ensures { Answers (λ n. AreStmts (Sized n)) BodyStops (lexemes source.now.text.now source.now.tokens.now) at result }
 {
     let first = read_stmt(source, at)?;
@@ -37,7 +39,8 @@ pub fn read_stmts(source: &Source, at: usize) -> Result<Found<Kept<List<AstStmt>
 /// A statement, by its first token.
 #[cycle(stmts)]
 fn read_stmt(source: &Source, at: usize) -> Result<Found<Kept<AstStmt>>, Stuck>
-    requires { AreTexts source.now.text.now source.now.tokens.now }
+    requires texts { AreTexts source.now.text.now source.now.tokens.now }
+    requires shallow { IsShallow (lexemes source.now.text.now source.now.tokens.now) }
     ensures { Answers (λ n. IsStmt (Sized n)) StmtStops (lexemes source.now.text.now source.now.tokens.now) at result }
 {
     let Some(token) = source.token(at) else {
@@ -63,6 +66,7 @@ fn read_stmt(source: &Source, at: usize) -> Result<Found<Kept<AstStmt>>, Stuck>
 #[cycle(stmts)]
 fn read_selection(source: &Source, at: usize) -> Result<Found<Kept<AstStmt>>, Stuck>
     requires texts { AreTexts source.now.text.now source.now.tokens.now }
+    requires shallow { IsShallow (lexemes source.now.text.now source.now.tokens.now) }
     requires shows { Shows Sign.If (lexemes source.now.text.now source.now.tokens.now) at }
     ensures { Answers (λ n. IsStmt (Sized n)) StmtStops (lexemes source.now.text.now source.now.tokens.now) at result }
 {
@@ -79,6 +83,7 @@ fn read_selection(source: &Source, at: usize) -> Result<Found<Kept<AstStmt>>, St
 #[cycle(stmts)]
 fn read_loop(source: &Source, at: usize) -> Result<Found<Kept<AstStmt>>, Stuck>
     requires texts { AreTexts source.now.text.now source.now.tokens.now }
+    requires shallow { IsShallow (lexemes source.now.text.now source.now.tokens.now) }
     requires shows { Shows Sign.Do (lexemes source.now.text.now source.now.tokens.now) at }
     ensures { Answers (λ n. IsStmt (Sized n)) StmtStops (lexemes source.now.text.now source.now.tokens.now) at result }
 {
@@ -96,7 +101,8 @@ fn read_loop(source: &Source, at: usize) -> Result<Found<Kept<AstStmt>>, Stuck>
 /// Branches with `[]` between them.
 #[cycle(stmts)]
 fn read_branches(source: &Source, at: usize) -> Result<Found<Kept<List<AstBranch>>>, Stuck>
-    requires { AreTexts source.now.text.now source.now.tokens.now }
+    requires texts { AreTexts source.now.text.now source.now.tokens.now }
+    requires shallow { IsShallow (lexemes source.now.text.now source.now.tokens.now) }
     ensures { Answers (λ n. AreBranches (Sized n)) BranchesStop (lexemes source.now.text.now source.now.tokens.now) at result }
 {
     let first = read_branch(source, at)?;
@@ -113,7 +119,8 @@ fn read_branches(source: &Source, at: usize) -> Result<Found<Kept<List<AstBranch
 /// A guard, `->` and statements.
 #[cycle(stmts)]
 fn read_branch(source: &Source, at: usize) -> Result<Found<Kept<AstBranch>>, Stuck>
-    requires { AreTexts source.now.text.now source.now.tokens.now }
+    requires texts { AreTexts source.now.text.now source.now.tokens.now }
+    requires shallow { IsShallow (lexemes source.now.text.now source.now.tokens.now) }
     ensures { Answers (λ n. IsBranch (Sized n)) BodyStops (lexemes source.now.text.now source.now.tokens.now) at result }
 {
     let guard = read_expr(source, at)?;

@@ -1,10 +1,10 @@
 //! Constants, inputs and variables.
 
-ghost use Rattle.tap_base.specs.Declarations.{IsConst, IsInput, IsVar, IsBound, Optional};
-ghost use Rattle.tap_base.specs.Lexeme.{lexemes};
-ghost use Rattle.tap_base.specs.Spans.{AreTexts};
-ghost use Rattle.tap_lexer.specs.Reading.{Free, Lacks};
-ghost use Rattle.tap_parser.specs.Reading.{Tells};
+ghost use Rattle.tap_lexer.specs.Lexeme.{lexemes};
+ghost use Rattle.tap_lexer.specs.Spans.{AreTexts};
+ghost use Rattle.tap_lexer.specs.inner.Reading.{Free, Lacks};
+ghost use Rattle.tap_parser.specs.Declarations.{IsConst, IsInput, IsVar, IsBound, Optional};
+ghost use Rattle.tap_parser.specs.inner.Reading.{Tells};
 
 use crate::bounds::{read_bound, read_scalar, read_signed, read_type};
 use crate::leaves::{expect, read_name};

@@ -1,10 +1,11 @@
 //! Whole texts.
 
 ghost use Rattle.std.specs.Prelude.{◌≤◌, length};
-ghost use Rattle.tap_base.specs.Lexeme.{lexemes};
-ghost use Rattle.tap_base.specs.Spans.{AreTexts};
-ghost use Rattle.tap_base.specs.Tokens.{SpellsTokens};
-ghost use Rattle.tap_parser.specs.Texts.{SystemAnswers, TextAnswers};
+ghost use Rattle.tap_lexer.specs.Depth.{IsShallow};
+ghost use Rattle.tap_lexer.specs.Lexeme.{lexemes};
+ghost use Rattle.tap_lexer.specs.Spans.{AreTexts};
+ghost use Rattle.tap_lexer.specs.Tokens.{SpellsTokens};
+ghost use Rattle.tap_parser.specs.inner.Texts.{SystemAnswers, TextAnswers};
 
 use crate::kept::Kept;
 use crate::processes::read_system;
@@ -49,7 +50,8 @@ pub fn parse(alloc: Global, text: &[u8], tokens: &[Token]) -> Result<Ast, ParseF
 
 /// What is kept of the tree that all the tokens spell.
 fn read_whole(source: &Source) -> Result<Kept<Ast>, Stuck>
-    requires { AreTexts source.now.text.now source.now.tokens.now }
+    requires texts { AreTexts source.now.text.now source.now.tokens.now }
+    requires shallow { IsShallow (lexemes source.now.text.now source.now.tokens.now) }
     ensures { SystemAnswers (lexemes source.now.text.now source.now.tokens.now) result }
 {
     let found = read_system(source, 0)?;

@@ -1,27 +1,26 @@
 -- What is printed of an expression is read as that expression, places aside.
-use Rattle.std.proofs.Common.{◌≡◌, refl, sym, ◌∙◌, ap, subst, ℕ, ℤ, Bool, true, false, if◌then◌else◌, nat_lt, List, [], ◌∷◌, ◌++◌, Option, Some, None}
+use Rattle.std.proofs.Common.{◌≡◌, refl, sym, ◌∙◌, ap, subst, ℕ, ℤ, Bool, true, false, if◌then◌else◌, nat_lt, List, [], ◌∷◌, ◌++◌, Some}
 use Rattle.tap_base.specs.declared.ast.AstExpr.{AstExpr}
 use Rattle.tap_base.specs.declared.ast.AstKind.TheVariants as kind
 use Rattle.tap_base.specs.declared.join.Join.{Join}
 use Rattle.tap_base.specs.declared.join.Join.TheVariants.{Disjunction, Conjunction, Sum, Term}
 use Rattle.tap_base.specs.declared.place.Place.{Place}
-use Rattle.tap_base.specs.declared.token.Sign.{Sign}
 use Rattle.tap_base.specs.declared.token.Sign.TheVariants as sign
 use Rattle.tap_base.specs.declared.tree.Op.{Op}
 use Rattle.tap_base.specs.declared.tree.Op.TheVariants as op
-use Rattle.tap_base.specs.Bytes.{start}
-use Rattle.tap_base.specs.CanonicalExprs.{Phrase, phrase, phrase_of, parenthesized, tightness, tokens_at, expr_tokens_at, expr_tokens, operator, level_of, truth_sign, operation_tokens}
-use Rattle.tap_base.specs.CanonicalLaws.{IsPrinted, Begins, none, next}
-use Rattle.tap_base.specs.Grammar.{Level, joined, negation, relation, factor, atom, expression, part_of, joining, relating, choosing, binary, Reads, Goes, done, more, chain, plain, denied, single, related, positive, negative, number, truth, untruth, name, element, part, chosen, group}
-use Rattle.tap_base.specs.Lexeme.{Lexeme}
-use Rattle.tap_base.specs.PlacesAside.{expr_aside}
-use Rattle.tap_base.specs.Printed.{Printed, mark}
-use Rattle.tap_base.specs.Printed as printed
-use Rattle.tap_base.specs.SmallGrammar.{node}
+use Rattle.tap_lexer.specs.Bytes.{start}
+use Rattle.tap_lexer.specs.Lexeme.{Lexeme}
+use Rattle.tap_lexer.specs.Leaves.{node}
+use Rattle.tap_expr.specs.Grammar.{Level, joined, negation, relation, factor, atom, expression, part_of, joining, relating, choosing, binary, Reads, Goes, done, more, chain, plain, denied, single, related, positive, negative, leaf, number, truth, untruth, name, element, part, chosen, group}
+use Rattle.tap_printer.specs.CanonicalExprs.{Phrase, phrase, phrase_of, parenthesized, tightness, tokens_at, expr_tokens_at, expr_tokens, operator, level_of, truth_sign, operation_tokens}
+use Rattle.tap_printer.specs.CanonicalLaws.{Begins, none, next}
+use Rattle.tap_printer.specs.PlacesAside.{expr_aside}
+use Rattle.tap_printer.specs.Printed.{Printed, mark}
+use Rattle.tap_printer.specs.Printed as printed
 use Rattle.tap_printer.proofs.Asides.{aside_number, aside_truth, aside_name, aside_index, aside_part, aside_not, aside_neg, aside_binary}
 use Rattle.tap_printer.proofs.Loosened.{loosened}
 use Rattle.tap_printer.proofs.Phrases.{by_kind, of_number, of_truth, of_name, of_index, of_part, of_not, of_neg, of_binary}
-use Rattle.tap_printer.proofs.Printing.{Around, around, Closing, closing, Read, ReadsAgain}
+use Rattle.tap_printer.proofs.Printing.{around, closing, Read, ReadsAgain}
 
 -- at every level, what is printed of the expression is read as it
 abbrev pub IsGood : AstExpr → Type 0
@@ -75,20 +74,20 @@ pub good_number : (n : ℤ) (p : Place) → IsGood (node (kind.Number n) p)
 good_number n p = by_phrase (node (kind.Number n) p) (phrase atom (printed.number n ∷ [])) (by_kind _ ∙ of_number n) go
   where
     go : ReadsAgain expr_aside (printed.number n ∷ []) (Reads atom) (node (kind.Number n) p)
-    go all us (next {x} i none) = record { again = node (kind.Number x.value) x.place; item = number i.0; same = aside_number x.value x.place ∙ ap (λ v. node (kind.Number v) start) i.1 ∙ sym (aside_number n p) }
+    go all us (next {x} i none) = record { again = node (kind.Number x.value) x.place; item = leaf (number i.0); same = aside_number x.value x.place ∙ ap (λ v. node (kind.Number v) start) i.1 ∙ sym (aside_number n p) }
 
 pub good_truth : (b : Bool) (p : Place) → IsGood (node (kind.Truth b) p)
 good_truth b p = by_phrase (node (kind.Truth b) p) (phrase atom (mark (truth_sign b) ∷ [])) (by_kind _ ∙ of_truth b) (go b)
   where
     go : (b : Bool) → ReadsAgain expr_aside (mark (truth_sign b) ∷ []) (Reads atom) (node (kind.Truth b) p)
-    go true all us (next {x} i none) = record { again = node (kind.Truth true) x.place; item = truth i; same = aside_truth true x.place ∙ sym (aside_truth true p) }
-    go false all us (next {x} i none) = record { again = node (kind.Truth false) x.place; item = untruth i; same = aside_truth false x.place ∙ sym (aside_truth false p) }
+    go true all us (next {x} i none) = record { again = node (kind.Truth true) x.place; item = leaf (truth i); same = aside_truth true x.place ∙ sym (aside_truth true p) }
+    go false all us (next {x} i none) = record { again = node (kind.Truth false) x.place; item = leaf (untruth i); same = aside_truth false x.place ∙ sym (aside_truth false p) }
 
 pub good_name : (t : List ℕ) (p : Place) → IsGood (node (kind.Name t) p)
 good_name t p = by_phrase (node (kind.Name t) p) (phrase atom (printed.name t ∷ [])) (by_kind _ ∙ of_name t) go
   where
     go : ReadsAgain expr_aside (printed.name t ∷ []) (Reads atom) (node (kind.Name t) p)
-    go all us (next {x} i none) = record { again = node (kind.Name x.text) x.place; item = name i.0; same = aside_name x.text x.place ∙ ap (λ v. node (kind.Name v) start) i.1 ∙ sym (aside_name t p) }
+    go all us (next {x} i none) = record { again = node (kind.Name x.text) x.place; item = leaf (name i.0); same = aside_name x.text x.place ∙ ap (λ v. node (kind.Name v) start) i.1 ∙ sym (aside_name t p) }
 
 pub good_part : (m f : List ℕ) (p : Place) → IsGood (node (kind.Part m f) p)
 good_part m f p = by_phrase (node (kind.Part m f) p) (phrase atom (printed.name m ∷ mark sign.Dot ∷ printed.name f ∷ [])) (by_kind _ ∙ of_part m f) go
@@ -96,7 +95,7 @@ good_part m f p = by_phrase (node (kind.Part m f) p) (phrase atom (printed.name 
     go : ReadsAgain expr_aside (printed.name m ∷ mark sign.Dot ∷ printed.name f ∷ []) (Reads atom) (node (kind.Part m f) p)
     go all us (next {x} i (next {x = y} j (next {x = z} k none))) = record {
       again = node (kind.Part x.text z.text) x.place;
-      item = part i.0 j k.0;
+      item = leaf (part i.0 j k.0);
       same = aside_part x.text z.text x.place ∙ ap (λ v. node (kind.Part v z.text) start) i.1 ∙ ap (λ v. node (kind.Part m v) start) k.1 ∙ sym (aside_part m f p);
     }
 
@@ -198,12 +197,12 @@ mutual
   good (related {a} {b} {x} {o} r i q) = good_binary o a b x.place (good r) (good q)
   good (positive r) = good r
   good (negative {e} {x} i r) = good_neg e x.place (good r)
-  good (number {x} i) = good_number x.value x.place
-  good (truth {x} i) = good_truth true x.place
-  good (untruth {x} i) = good_truth false x.place
-  good (name {x} i) = good_name x.text x.place
+  good (leaf (number {x} i)) = good_number x.value x.place
+  good (leaf (truth {x} i)) = good_truth true x.place
+  good (leaf (untruth {x} i)) = good_truth false x.place
+  good (leaf (name {x} i)) = good_name x.text x.place
   good (element {x} {e} i o r c) = good_index x.text e x.place (good r)
-  good (part {x} {z} i o c) = good_part x.text z.text x.place
+  good (leaf (part {x} {z} i o c)) = good_part x.text z.text x.place
   good (chosen {x} {o} {a} {b} i p r c q d) = good_binary o a b x.place (good r) (good q)
   good (group i r c) = good r
 

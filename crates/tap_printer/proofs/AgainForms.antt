@@ -1,5 +1,5 @@
 -- What is printed of declarations is read as those declarations, places aside.
-use Rattle.std.proofs.Common.{◌≡◌, refl, sym, ◌∙◌, ap, subst, ℕ, ◌<◌, ltb-true, arith, ℤ, pos, negsuc, neg_ℤ, int_lt, unsigned_abs, Bool, true, false, if◌then◌else◌, List, [], ◌∷◌, ◌++◌, map, Option, Some, None}
+use Rattle.std.proofs.Common.{◌≡◌, refl, ◌∙◌, ap, ℕ, ◌<◌, ltb-true, arith, ℤ, pos, negsuc, neg_ℤ, int_lt, unsigned_abs, Bool, true, false, if◌then◌else◌, List, [], ◌∷◌, map, Option, Some, None}
 use Rattle.std.specs.Option.{option_map}
 use Rattle.tap_base.specs.declared.ast.AstConst.{AstConst}
 use Rattle.tap_base.specs.declared.ast.AstField.{AstField}
@@ -12,20 +12,19 @@ use Rattle.tap_base.specs.declared.ast.AstVar.{AstVar}
 use Rattle.tap_base.specs.declared.ast.Bound.{Bound}
 use Rattle.tap_base.specs.declared.ast.Bound.TheVariants as bound
 use Rattle.tap_base.specs.declared.ast.Ident.{Ident}
-use Rattle.tap_base.specs.declared.token.Sign.{Sign}
 use Rattle.tap_base.specs.declared.token.Sign.TheVariants as sign
-use Rattle.tap_base.specs.Bytes.{start}
-use Rattle.tap_base.specs.Canonical.{separated, optional, ident_tokens, number_tokens, signed_tokens, bound_tokens, scalar_tokens, type_tokens, const_tokens, initial_tokens, var_tokens, fixed_tokens, field_tokens, message_tokens}
-use Rattle.tap_base.specs.CanonicalLaws.{IsPrinted, Begins, none, next}
-use Rattle.tap_base.specs.Declarations.{Optional, absent, present, IsName, IsNumber, IsSigned, IsBound, IsScalar, IsType, IsConst, IsInput, IsVar, IsField, IsMessage}
-use Rattle.tap_base.specs.Declarations as form
-use Rattle.tap_base.specs.Lexeme.{Lexeme}
-use Rattle.tap_base.specs.PlacesAside.{ident_aside, bound_aside, scalar_aside, type_aside, const_aside, var_aside, field_aside, message_aside}
-use Rattle.tap_base.specs.Printed.{Printed, mark}
-use Rattle.tap_base.specs.Printed as printed
-use Rattle.tap_base.specs.SmallGrammar.{Separated, ident}
+use Rattle.tap_lexer.specs.Bytes.{start}
+use Rattle.tap_lexer.specs.Lexeme.{Lexeme}
+use Rattle.tap_lexer.specs.Leaves.{ident}
+use Rattle.tap_parser.specs.Declarations.{Optional, absent, present, IsName, IsNumber, IsSigned, IsBound, IsScalar, IsType, IsConst, IsInput, IsVar, IsField, IsMessage}
+use Rattle.tap_parser.specs.Declarations as form
+use Rattle.tap_printer.specs.Canonical.{separated, optional, ident_tokens, number_tokens, signed_tokens, bound_tokens, scalar_tokens, type_tokens, const_tokens, initial_tokens, var_tokens, fixed_tokens, field_tokens, message_tokens}
+use Rattle.tap_printer.specs.CanonicalLaws.{none, next}
+use Rattle.tap_printer.specs.PlacesAside.{ident_aside, bound_aside, scalar_aside, type_aside, const_aside, var_aside, field_aside, message_aside}
+use Rattle.tap_printer.specs.Printed.{mark}
+use Rattle.tap_printer.specs.Printed as printed
 use Rattle.tap_printer.proofs.AgainLists.{without_end, both, separated_again}
-use Rattle.tap_printer.proofs.Printing.{Parts, parts, Around, around, Closing, closing, Read, ReadsAgain}
+use Rattle.tap_printer.proofs.Printing.{parts, around, closing, ReadsAgain}
 
 -- a name at the start of a text
 abbrev pub named : List ℕ → Ident

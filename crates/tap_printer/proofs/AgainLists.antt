@@ -1,15 +1,16 @@
 -- What is printed of lists of forms is read as those lists, places aside.
-use Rattle.std.proofs.Common.{◌≡◌, refl, sym, ◌∙◌, ap, subst, List, [], ◌∷◌, ◌++◌, map, flat_map, Option, Some, None, append-nil}
+use Rattle.std.proofs.Common.{◌≡◌, refl, ◌∙◌, ap, subst, List, [], ◌∷◌, ◌++◌, map, flat_map, append-nil}
 use Rattle.tap_base.specs.declared.token.Sign.{Sign}
-use Rattle.tap_base.specs.Canonical.{further, separated, block, optional}
-use Rattle.tap_base.specs.CanonicalLaws.{IsPrinted, Begins, none, next}
-use Rattle.tap_base.specs.Declarations.{Optional, Block}
-use Rattle.tap_base.specs.Declarations as declarations
-use Rattle.tap_base.specs.Lexeme.{Lexeme}
-use Rattle.tap_base.specs.Printed.{Printed, mark}
-use Rattle.tap_base.specs.SmallGrammar.{Separated, last, more, SomeSeparated, none as no_items, some, Rows, Row}
-use Rattle.tap_base.specs.SmallGrammar as small
-use Rattle.tap_printer.proofs.Printing.{Parts, parts, Around, around, Read, ReadsAgain}
+use Rattle.tap_lexer.specs.Lexeme.{Lexeme}
+use Rattle.tap_lexer.specs.Rows.{Separated, last, more, SomeSeparated, none as no_items, some, Rows, Row}
+use Rattle.tap_lexer.specs.Rows as rows
+use Rattle.tap_parser.specs.Declarations.{Block}
+use Rattle.tap_parser.specs.Declarations as declarations
+use Rattle.tap_printer.specs.Canonical.{separated, block}
+use Rattle.tap_printer.specs.CanonicalLaws.{Begins, none, next}
+use Rattle.tap_printer.specs.Printed.{Printed, mark}
+use Rattle.tap_printer.proofs.Printing.{parts, around, ReadsAgain}
+use Rattle.tap_printer.proofs.Separators.{further_is, block_is}
 
 pub without_end : (printed : List Printed) {ts us : List Lexeme} → Begins (printed ++ []) ts us → Begins printed ts us
 without_end printed {ts} {us} g = subst (λ p. Begins p ts us) (append-nil printed) g
@@ -19,20 +20,12 @@ pub both : {A B C : Type 0} (f : A → B → C) {a c : A} {b d : B} → a ≡ c 
 both f {c} {b} p q = ap (λ x. f x b) p ∙ ap (f c) q
 
 module _ {A : Type 0} (aside : A → A) (f : A → List Printed) (Item : A → List Lexeme → List Lexeme → Type 0) (h : (a : A) (ts us : List Lexeme) → Item a ts us → ReadsAgain aside (f a) Item a) where
-  further_is : {s : Sign} {items : List A} {ts us : List Lexeme} → Separated Item s items ts us → further s (map f items) ≡ mark s ∷ separated s (map f items)
-  further_is (last i) = refl
-  further_is (more i e r) = refl
-
-  block_is : (word : Sign) {s : Sign} {items : List A} {ts us : List Lexeme} → Separated Item s items ts us → block word s (map f items) ≡ mark word ∷ separated s (map f items)
-  block_is word (last i) = refl
-  block_is word (more i e r) = refl
-
   pub separated_again : {s : Sign} {items : List A} {ts us : List Lexeme} → Separated Item s items ts us → ReadsAgain (map aside) (separated s (map f items)) (Separated Item s) items
   separated_again (last {a} {ts} {us} i) all end g =
       let r = h a ts us i all end (without_end (f a) g) in
       record { again = r.again ∷ []; item = last r.item; same = ap (λ v. v ∷ []) r.same }
   separated_again {s} (more {a} {as_} {x} {ts} {us} i e r) all end g =
-      let c = around (f a) (mark s) (separated s (map f as_)) (subst (λ p. Begins (f a ++ p) all end) (further_is r) g) in
+      let c = around (f a) (mark s) (separated s (map f as_)) (subst (λ p. Begins (f a ++ p) all end) (further_is f Item r) g) in
       let q = h a ts (x ∷ us) i all (c.x ∷ c.middle) c.front in
       let n = separated_again r c.middle end c.rest in
       record { again = q.again ∷ n.again; item = more q.item c.is n.item; same = both (λ v w. v ∷ w) q.same n.same }
@@ -50,22 +43,22 @@ module _ {A : Type 0} (aside : A → A) (f : A → List Printed) (Item : A → L
 
   pub block_again : {word s : Sign} {items : List A} {ts us : List Lexeme} → Block Item word s items ts us → ReadsAgain (map aside) (block word s (map f items)) (Block Item word s) items
   block_again declarations.absent all end none = record { again = []; item = declarations.absent; same = refl }
-  block_again {word} (declarations.present e r) all end g = block_present (separated_again r) all end (subst (λ p. Begins p all end) (block_is word r) g)
+  block_again {word} (declarations.present e r) all end g = block_present (separated_again r) all end (subst (λ p. Begins p all end) (block_is f Item word r) g)
 
   pub rows_again : {items : List A} {ts us : List Lexeme} → Rows Item items ts us → ReadsAgain (map aside) (flat_map f items) (Rows Item) items
-  rows_again small.Rows.none all end none = record { again = []; item = small.Rows.none; same = refl }
-  rows_again (small.Rows.more {a} {as_} {ts} {us} i r) all end g =
+  rows_again rows.Rows.none all end none = record { again = []; item = rows.Rows.none; same = refl }
+  rows_again (rows.Rows.more {a} {as_} {ts} {us} i r) all end g =
       let c = parts (f a) (flat_map f as_) g in
       let q = h a ts us i all c.middle c.front in
       let n = rows_again r c.middle end c.rest in
-      record { again = q.again ∷ n.again; item = small.Rows.more q.item n.item; same = both (λ v w. v ∷ w) q.same n.same }
+      record { again = q.again ∷ n.again; item = rows.Rows.more q.item n.item; same = both (λ v w. v ∷ w) q.same n.same }
 
   pub row_again : {items : List A} {ts us : List Lexeme} → Row Item items ts us → ReadsAgain (map aside) (flat_map f items) (Row Item) items
-  row_again (small.Row.last {a} {ts} {us} i) all end g =
+  row_again (rows.Row.last {a} {ts} {us} i) all end g =
       let r = h a ts us i all end (without_end (f a) g) in
-      record { again = r.again ∷ []; item = small.Row.last r.item; same = ap (λ v. v ∷ []) r.same }
-  row_again (small.Row.more {a} {as_} {ts} {us} i r) all end g =
+      record { again = r.again ∷ []; item = rows.Row.last r.item; same = ap (λ v. v ∷ []) r.same }
+  row_again (rows.Row.more {a} {as_} {ts} {us} i r) all end g =
       let c = parts (f a) (flat_map f as_) g in
       let q = h a ts us i all c.middle c.front in
       let n = row_again r c.middle end c.rest in
-      record { again = q.again ∷ n.again; item = small.Row.more q.item n.item; same = both (λ v w. v ∷ w) q.same n.same }
+      record { again = q.again ∷ n.again; item = rows.Row.more q.item n.item; same = both (λ v w. v ∷ w) q.same n.same }

@@ -1,6 +1,5 @@
 -- What is printed of statements and actions is read as they are, places aside.
 use Rattle.std.proofs.Common.{◌≡◌, refl, sym, ◌∙◌, ap, subst, ℕ, ℤ, List, [], ◌∷◌, ◌++◌, map, Option, Some, None}
-use Rattle.std.specs.Option.{option_map}
 use Rattle.tap_base.specs.declared.ast.AstAction.{AstAction}
 use Rattle.tap_base.specs.declared.ast.AstBranch.{AstBranch}
 use Rattle.tap_base.specs.declared.ast.AstExpr.{AstExpr}
@@ -11,24 +10,25 @@ use Rattle.tap_base.specs.declared.ast.AstStmt.TheVariants as stmt
 use Rattle.tap_base.specs.declared.ast.AstTarget.{AstTarget}
 use Rattle.tap_base.specs.declared.ast.Ident.{Ident}
 use Rattle.tap_base.specs.declared.place.Place.{Place}
-use Rattle.tap_base.specs.declared.token.Sign.{Sign}
 use Rattle.tap_base.specs.declared.token.Sign.TheVariants as sign
-use Rattle.tap_base.specs.Bytes.{start}
-use Rattle.tap_base.specs.Canonical.{further, separated, index_tokens, target_tokens, stmt_tokens, branch_tokens, guard_tokens, action_tokens}
-use Rattle.tap_base.specs.CanonicalExprs.{expr_tokens}
-use Rattle.tap_base.specs.CanonicalLaws.{IsPrinted, Begins, none, next}
-use Rattle.tap_base.specs.Lexeme.{Lexeme}
-use Rattle.tap_base.specs.PlacesAside.{ident_aside, expr_aside, target_aside, stmt_aside, branch_aside, guard_aside, action_aside}
-use Rattle.tap_base.specs.Printed.{Printed, mark}
-use Rattle.tap_base.specs.Printed as printed
-use Rattle.tap_base.specs.SmallGrammar.{Separated, SomeSeparated, ident}
-use Rattle.tap_base.specs.Statements.{IsTarget, IsStmt, AreStmts, IsBranch, AreBranches, IsGuard, IsAction}
-use Rattle.tap_base.specs.Statements as form
+use Rattle.tap_lexer.specs.Bytes.{start}
+use Rattle.tap_lexer.specs.Lexeme.{Lexeme}
+use Rattle.tap_lexer.specs.Leaves.{ident}
+use Rattle.tap_lexer.specs.Rows.{Separated, SomeSeparated}
+use Rattle.tap_parser.specs.Statements.{IsTarget, IsStmt, AreStmts, IsBranch, AreBranches, IsGuard, IsAction}
+use Rattle.tap_parser.specs.Statements as form
+use Rattle.tap_printer.specs.Canonical.{separated, target_tokens, stmt_tokens, branch_tokens, guard_tokens, action_tokens}
+use Rattle.tap_printer.specs.CanonicalExprs.{expr_tokens}
+use Rattle.tap_printer.specs.CanonicalLaws.{Begins, none, next}
+use Rattle.tap_printer.specs.PlacesAside.{expr_aside, target_aside, stmt_aside, branch_aside, guard_aside, action_aside}
+use Rattle.tap_printer.specs.Printed.{Printed, mark}
+use Rattle.tap_printer.specs.Printed as printed
 use Rattle.tap_printer.proofs.AgainForms.{named}
 use Rattle.tap_printer.proofs.AgainLists.{without_end, both, separated_again, some_again}
-use Rattle.tap_printer.proofs.Asides.{aside_skip, aside_assign, aside_choose, aside_send, aside_start, aside_stop, aside_select, aside_loop, aside_branch}
+use Rattle.tap_printer.proofs.Asides.{aside_assign, aside_choose, aside_send, aside_start, aside_stop, aside_select, aside_loop, aside_branch}
 use Rattle.tap_printer.proofs.Bodies.{of_skip, of_assign, of_choose, of_send, of_start, of_stop, of_select, of_loop, of_branch}
-use Rattle.tap_printer.proofs.Printing.{Parts, parts, Around, around, Closing, closing, Read, ReadsAgain}
+use Rattle.tap_printer.proofs.Printing.{around, closing, Read, ReadsAgain}
+use Rattle.tap_printer.proofs.Separators.{stmts_further, branches_further}
 
 -- read as something that is printed so
 pub printed_as : {A : Type 0} (aside : A → A) (Item : A → List Lexeme → List Lexeme → Type 0) (a : A) (p q : List Printed) → p ≡ q → ReadsAgain aside q Item a → ReadsAgain aside p Item a
@@ -50,14 +50,6 @@ module _ (E : AstExpr → List Lexeme → List Lexeme → Type 0) (h : (e : AstE
       let d = closing (expr_tokens e) (mark sign.CloseIndex) g in
       let q = h e ks (z ∷ us) r rest (d.x ∷ end) d.front in
       record { again = record { name = ident x; index = Some q.again }; item = form.IsTarget.element j.0 k q.item d.is; same = both (λ v w. target_of v (Some w)) j.1 q.same }
-
-  stmts_further : {ss : List AstStmt} {ts us : List Lexeme} → AreStmts E ss ts us → further sign.Semicolon (map stmt_tokens ss) ≡ mark sign.Semicolon ∷ separated sign.Semicolon (map stmt_tokens ss)
-  stmts_further (form.AreStmts.last i) = refl
-  stmts_further (form.AreStmts.more i e r) = refl
-
-  branches_further : {bs : List AstBranch} {ts us : List Lexeme} → AreBranches E bs ts us → further sign.Box (map branch_tokens bs) ≡ mark sign.Box ∷ separated sign.Box (map branch_tokens bs)
-  branches_further (form.AreBranches.final i) = refl
-  branches_further (form.AreBranches.further i e r) = refl
 
   -- ---- statements without branches
 
@@ -151,7 +143,7 @@ module _ (E : AstExpr → List Lexeme → List Lexeme → Type 0) (h : (e : AstE
         let r = stmt_again i all end (without_end (stmt_tokens s) g) in
         record { again = r.again ∷ []; item = form.AreStmts.last r.item; same = ap (λ v. v ∷ []) r.same }
     stmts_again (form.AreStmts.more {s} {ss} i e r) all end g =
-        let c = around (stmt_tokens s) (mark sign.Semicolon) (separated sign.Semicolon (map stmt_tokens ss)) (subst (λ p. Begins (stmt_tokens s ++ p) all end) (stmts_further r) g) in
+        let c = around (stmt_tokens s) (mark sign.Semicolon) (separated sign.Semicolon (map stmt_tokens ss)) (subst (λ p. Begins (stmt_tokens s ++ p) all end) (stmts_further E r) g) in
         let q = stmt_again i all (c.x ∷ c.middle) c.front in
         let n = stmts_again r c.middle end c.rest in
         record { again = q.again ∷ n.again; item = form.AreStmts.more q.item c.is n.item; same = both (λ v w. v ∷ w) q.same n.same }
@@ -164,7 +156,7 @@ module _ (E : AstExpr → List Lexeme → List Lexeme → Type 0) (h : (e : AstE
         let r = branch_reads i all end (without_end (branch_tokens b) g) in
         record { again = r.again ∷ []; item = form.AreBranches.final r.item; same = ap (λ v. v ∷ []) r.same }
     branches_again (form.AreBranches.further {b} {bs} i e r) all end g =
-        let c = around (branch_tokens b) (mark sign.Box) (separated sign.Box (map branch_tokens bs)) (subst (λ p. Begins (branch_tokens b ++ p) all end) (branches_further r) g) in
+        let c = around (branch_tokens b) (mark sign.Box) (separated sign.Box (map branch_tokens bs)) (subst (λ p. Begins (branch_tokens b ++ p) all end) (branches_further E r) g) in
         let q = branch_reads i all (c.x ∷ c.middle) c.front in
         let n = branches_again r c.middle end c.rest in
         record { again = q.again ∷ n.again; item = form.AreBranches.further q.item c.is n.item; same = both (λ v w. v ∷ w) q.same n.same }

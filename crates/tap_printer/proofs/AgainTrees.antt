@@ -1,5 +1,5 @@
 -- What is printed of processes and of whole trees is read as they are, places aside.
-use Rattle.std.proofs.Common.{◌≡◌, refl, sym, ◌∙◌, ap, subst, ℕ, List, [], ◌∷◌, ◌++◌, map, flat_map, Option, Some, None}
+use Rattle.std.proofs.Common.{◌≡◌, ◌∙◌, ap, ℕ, List, [], ◌∷◌, ◌++◌, map, flat_map}
 use Rattle.tap_base.specs.declared.ast.Ast.{Ast}
 use Rattle.tap_base.specs.declared.ast.AstAction.{AstAction}
 use Rattle.tap_base.specs.declared.ast.AstConst.{AstConst}
@@ -8,24 +8,24 @@ use Rattle.tap_base.specs.declared.ast.AstMessage.{AstMessage}
 use Rattle.tap_base.specs.declared.ast.AstProcess.{AstProcess}
 use Rattle.tap_base.specs.declared.ast.AstVar.{AstVar}
 use Rattle.tap_base.specs.declared.ast.Ident.{Ident}
-use Rattle.tap_base.specs.declared.token.Sign.{Sign}
 use Rattle.tap_base.specs.declared.token.Sign.TheVariants as sign
-use Rattle.tap_base.specs.Canonical.{separated, block, ident_tokens, const_tokens, var_tokens, message_tokens, action_tokens, process_tokens, tree_tokens}
-use Rattle.tap_base.specs.CanonicalExprs.{expr_tokens}
-use Rattle.tap_base.specs.CanonicalLaws.{Begins, none, next, SpelledAgain, ArePrinted}
-use Rattle.tap_base.specs.Declarations.{Block, IsName, IsConst, IsInput, IsVar, IsMessage}
-use Rattle.tap_base.specs.Grammar.{Level, Reads, expression, chain, plain, single, related, positive}
-use Rattle.tap_base.specs.Lexeme.{Lexeme}
-use Rattle.tap_base.specs.PlacesAside.{ident_aside, expr_aside, const_aside, var_aside, message_aside, action_aside, process_aside, places_aside, SameTree}
-use Rattle.tap_base.specs.Printed.{Printed, mark}
-use Rattle.tap_base.specs.SmallGrammar.{SomeSeparated, ident}
-use Rattle.tap_base.specs.Statements.{IsAction}
-use Rattle.tap_base.specs.Systems.{IsProcess, declared, SpellsOver, system, SpellsText}
+use Rattle.tap_lexer.specs.Lexeme.{Lexeme}
+use Rattle.tap_lexer.specs.Leaves.{ident}
+use Rattle.tap_expr.specs.Grammar.{Reads, expression}
+use Rattle.tap_expr.proofs.ExprFronts.{no_front}
+use Rattle.tap_parser.specs.Declarations.{IsName, IsConst, IsInput, IsVar, IsMessage}
+use Rattle.tap_parser.specs.Statements.{IsAction}
+use Rattle.tap_parser.specs.Systems.{IsProcess, declared, SpellsOver, system}
+use Rattle.tap_printer.specs.Canonical.{separated, block, ident_tokens, const_tokens, var_tokens, message_tokens, action_tokens, process_tokens, tree_tokens}
+use Rattle.tap_printer.specs.CanonicalExprs.{expr_tokens}
+use Rattle.tap_printer.specs.CanonicalLaws.{next, SpelledAgain, ArePrinted}
+use Rattle.tap_printer.specs.PlacesAside.{ident_aside, expr_aside, const_aside, var_aside, message_aside, action_aside, process_aside, SameTree}
+use Rattle.tap_printer.specs.Printed.{Printed, mark}
 use Rattle.tap_printer.proofs.AgainExprs.{good}
 use Rattle.tap_printer.proofs.AgainForms.{named, name_again, const_again, input_again, var_again, message_again}
 use Rattle.tap_printer.proofs.AgainLists.{both, some_again, block_again, rows_again, row_again}
 use Rattle.tap_printer.proofs.AgainStmts.{action_again}
-use Rattle.tap_printer.proofs.Printing.{Parts, parts, Around, around, Closing, closing, Read, ReadsAgain}
+use Rattle.tap_printer.proofs.Printing.{parts, around, closing, ReadsAgain}
 
 abbrev pub process_of : List ℕ → List AstConst → List AstVar → List AstVar → List Ident → List AstAction → AstProcess
 process_of t c i v k a = record { name = named t; consts = c; inputs = i; vars = v; timers = k; actions = a }
@@ -69,12 +69,5 @@ module _ (E : AstExpr → List Lexeme → List Lexeme → Type 0) (h : (e : AstE
       let d : Ast = record { messages = rm.again; processes = rp.again } in
       (d, system rm.item rp.item, both tree_of rm.same rp.same)
 
-pub nothing_reads : {l : Level} {e : AstExpr} {us : List Lexeme} → Reads l e [] us → ⊥
-nothing_reads (chain r g) = nothing_reads r
-nothing_reads (plain r) = nothing_reads r
-nothing_reads (single r) = nothing_reads r
-nothing_reads (related r i q) = nothing_reads r
-nothing_reads (positive r) = nothing_reads r
-
 pub spelled_again : SpelledAgain
-spelled_again ts us tree s g = tree_again (Reads expression) (λ e ks ws r. good r expression) (λ e ws r. nothing_reads r) ts us tree s g
+spelled_again ts us tree s g = tree_again (Reads expression) (λ e ks ws r. good r expression) (λ e ws r. no_front r) ts us tree s g

@@ -1,5 +1,5 @@
 -- Words and symbols as they are spelled, and what may stand behind them.
-use Rattle.std.proofs.Common.{◌≡◌, ℕ, ◌<◌, ◌≤◌, ◌^◌, ℤ, pos, length, Bool, true, false, not, ◌||◌, ◌==◌, if◌then◌else◌, refl, sym, ◌∙◌, ap, subst, List, [], ◌∷◌, ◌++◌, Option, Some, None, arith}
+use Rattle.std.proofs.Common.{◌≡◌, ℕ, ◌<◌, ◌≤◌, ◌^◌, ℤ, pos, length, Bool, true, false, not, ◌||◌, ◌==◌, if◌then◌else◌, refl, sym, ◌∙◌, ap, subst, List, [], ◌∷◌, ◌++◌, arith}
 use Rattle.std.specs.Char.{is_ascii_alphabetic, is_ascii_digit}
 use Rattle.std.specs.Fmt.{decimal, signed_decimal}
 use Rattle.std.specs.List.{list_all}
@@ -9,15 +9,15 @@ use Rattle.std.proofs.lemmas.Str.Parse.{digit_from_value}
 use Rattle.std.proofs.lemmas.Bool.Decides.{nat_tests}
 use Rattle.tap_base.specs.declared.token.Sign.{Sign}
 use Rattle.tap_base.specs.declared.token.Sign.TheVariants as sign
-use Rattle.tap_base.specs.declared.token.TokenKind.TheVariants.{Name, Number, Word, Symbol}
-use Rattle.tap_base.specs.Bytes.{in_word}
-use Rattle.tap_base.specs.Printed.{Printed, mark, name, number, sign_of, bytes_of, spelling, Joint, line_feed, nothing, one_space, begins_line, joins_before, joins_after, joint, joint_bytes, before_token, text_behind}
-use Rattle.tap_base.specs.Tokens.{AllPass, IsToken}
-use Rattle.tap_base.specs.Words.{words, symbols, is_in}
-use Rattle.tap_base.specs.Words as listed
+use Rattle.tap_base.specs.declared.token.TokenKind.TheVariants.{Name, Word, Symbol}
+use Rattle.tap_lexer.specs.Bytes.{in_word}
+use Rattle.tap_lexer.specs.Tokens.{AllPass, IsToken}
+use Rattle.tap_lexer.specs.Words.{words, symbols, is_in}
+use Rattle.tap_lexer.specs.Words as listed
 use Rattle.tap_lexer.proofs.Shapes.{symbol_short}
 use Rattle.tap_lexer.proofs.Tables.{listed_passes}
-use Rattle.tap_printer.proofs.Fitting.{is_spelled, is_closed, begins_expr, may_follow, Fit, IsRead, IsProper, AreProper}
+use Rattle.tap_printer.specs.Printed.{Printed, mark, name, number, sign_of, bytes_of, spelling, line_feed, nothing, one_space, joins_after, joint}
+use Rattle.tap_printer.proofs.Fitting.{is_spelled, may_follow, IsRead, IsProper}
 
 abbrev pub is_symbol : Sign → Bool
 is_symbol sign.Becomes = true

@@ -1,8 +1,7 @@
 -- Tokens that are written behind others.
-use Rattle.std.proofs.Common.{◌≡◌, refl, sym, ◌∙◌, ap, ℕ, List, [], ◌∷◌, ◌++◌, codes, Option, Some, None, Result, Ok, Err, OnOk, append_assoc}
-use Rattle.tap_base.specs.declared.token.Sign.{Sign}
-use Rattle.tap_base.specs.Printed.{Printed, sign_of, bytes_of, before_token, text_behind, text_of}
-use Rattle.tap_printer.specs.Pages.{Page, put, blank, after}
+use Rattle.std.proofs.Common.{◌≡◌, refl, sym, ◌∙◌, ap, List, [], ◌∷◌, ◌++◌, codes, Some, Result, Ok, Err, OnOk, append_assoc}
+use Rattle.tap_printer.specs.Printed.{Printed, sign_of, bytes_of, before_token, text_behind, text_of}
+use Rattle.tap_printer.specs.inner.Pages.{Page, put, blank, after}
 
 pub after_append : (p : Page) (ts us : List Printed) → after p (ts ++ us) ≡ after (after p ts) us
 after_append p [] us = refl

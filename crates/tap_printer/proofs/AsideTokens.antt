@@ -1,12 +1,10 @@
 -- Places change neither what is printed nor the count of nodes.
-use Rattle.std.proofs.Common.{◌≡◌, refl, sym, ◌∙◌, ap, subst, ℕ, zero, suc, ◌+◌, ◌<◌, ◌≤◌, ℤ, List, [], ◌∷◌, ◌++◌, map, flat_map, Option, Some, None, arith, rules}
+use Rattle.std.proofs.Common.{◌≡◌, refl, sym, ◌∙◌, ap, ℕ, zero, suc, ◌+◌, ◌<◌, ◌≤◌, ℤ, List, [], ◌∷◌, ◌++◌, map, flat_map, Option, Some, None, arith, rules}
 use Rattle.std.specs.Option.{option_map}
 use Rattle.tap_base.specs.declared.ast.Ast.{Ast}
 use Rattle.tap_base.specs.declared.ast.AstAction.{AstAction}
 use Rattle.tap_base.specs.declared.ast.AstBranch.{AstBranch}
-use Rattle.tap_base.specs.declared.ast.AstConst.{AstConst}
 use Rattle.tap_base.specs.declared.ast.AstExpr.{AstExpr}
-use Rattle.tap_base.specs.declared.ast.AstField.{AstField}
 use Rattle.tap_base.specs.declared.ast.AstGuard.{AstGuard}
 use Rattle.tap_base.specs.declared.ast.AstGuard.TheVariants as guard
 use Rattle.tap_base.specs.declared.ast.AstKind.{AstKind, the_lemmas}
@@ -25,23 +23,23 @@ use Rattle.tap_base.specs.declared.ast.AstType.TheVariants as type_of
 use Rattle.tap_base.specs.declared.ast.AstVar.{AstVar}
 use Rattle.tap_base.specs.declared.ast.Bound.{Bound}
 use Rattle.tap_base.specs.declared.ast.Bound.TheVariants as bound
-use Rattle.tap_base.specs.declared.ast.Ident.{Ident}
 use Rattle.tap_base.specs.declared.place.Place.{Place}
 use Rattle.tap_base.specs.declared.token.Sign.TheVariants as sign
 use Rattle.tap_base.specs.declared.tree.Op.{Op}
-use Rattle.tap_base.specs.Bytes.{start}
-use Rattle.tap_base.specs.Canonical.{separated, block, optional, ident_tokens, bound_tokens, scalar_tokens, type_tokens, const_tokens, initial_tokens, var_tokens, field_tokens, message_tokens, index_tokens, target_tokens, stmt_tokens, branch_tokens, guard_tokens, action_tokens, process_tokens, tree_tokens, canonical}
-use Rattle.tap_base.specs.CanonicalExprs.{Phrase, phrase, phrase_of, tokens_at, expr_tokens, level_of, operation_tokens}
-use Rattle.tap_base.specs.Grammar.{negation, relation, factor, atom, expression}
-use Rattle.tap_base.specs.Nodes.{nodes}
-use Rattle.tap_base.specs.PlacesAside.{ident_aside, expr_aside, target_aside, stmt_aside, branch_aside, guard_aside, action_aside, bound_aside, scalar_aside, type_aside, const_aside, var_aside, field_aside, message_aside, process_aside, places_aside, SameTree}
-use Rattle.tap_base.specs.Printed.{Printed, mark, text_of}
-use Rattle.tap_base.specs.Printed as printed
-use Rattle.tap_base.specs.SmallGrammar.{node}
+use Rattle.tap_base.proofs.ListFacts.{map_same, flat_same}
+use Rattle.tap_lexer.specs.Bytes.{start}
+use Rattle.tap_lexer.specs.Leaves.{node}
+use Rattle.tap_expr.specs.Grammar.{negation, relation, factor, atom, expression}
+use Rattle.tap_expr.specs.Nodes.{nodes}
+use Rattle.tap_printer.specs.Canonical.{separated, block, optional, ident_tokens, bound_tokens, scalar_tokens, type_tokens, const_tokens, initial_tokens, var_tokens, message_tokens, index_tokens, target_tokens, stmt_tokens, branch_tokens, guard_tokens, action_tokens, process_tokens, tree_tokens, canonical}
+use Rattle.tap_printer.specs.CanonicalExprs.{phrase, phrase_of, tokens_at, expr_tokens, level_of, operation_tokens}
+use Rattle.tap_printer.specs.PlacesAside.{ident_aside, expr_aside, target_aside, stmt_aside, branch_aside, guard_aside, action_aside, bound_aside, scalar_aside, type_aside, const_aside, var_aside, field_aside, message_aside, process_aside, places_aside, SameTree}
+use Rattle.tap_printer.specs.Printed.{Printed, mark, text_of}
+use Rattle.tap_printer.specs.Printed as printed
 use Rattle.tap_printer.proofs.Asides.{aside_number, aside_truth, aside_name, aside_index, aside_part, aside_not, aside_neg, aside_binary, aside_skip, aside_assign, aside_choose, aside_send, aside_start, aside_stop, aside_select, aside_loop, aside_branch}
-use Rattle.tap_printer.proofs.Bodies.{of_skip, of_assign, of_choose, of_send, of_start, of_stop, of_select, of_loop, of_branch}
+use Rattle.tap_printer.proofs.Bodies.{of_assign, of_choose, of_send, of_start, of_stop, of_select, of_loop, of_branch}
 use Rattle.tap_printer.proofs.Views.{KindView, kind_view, a_number, a_truth, a_name, an_element, a_part, a_denial, a_negation, an_operation, StmtView, stmt_view, a_skip, an_assignment, a_choice, a_send, a_start, a_stop, a_selection, a_loop}
-use Rattle.tap_printer.proofs.Phrases.{by_kind, of_number, of_truth, of_name, of_index, of_part, of_not, of_neg, of_binary}
+use Rattle.tap_printer.proofs.Phrases.{by_kind, of_index, of_not, of_neg, of_binary}
 
 -- ---- nodes
 
@@ -149,14 +147,6 @@ pub expr_same : (e : AstExpr) → expr_tokens (expr_aside e) ≡ expr_tokens e
 expr_same e = ap (tokens_at expression) (expr_alike e).phrases
 
 -- ---- lists
-
-pub map_same : {A B : Type 0} (aside : A → A) (f : A → B) → ((a : A) → f (aside a) ≡ f a) → (l : List A) → map f (map aside l) ≡ map f l
-map_same aside f h [] = refl
-map_same aside f h (a ∷ l) = ap (λ x. x ∷ map f (map aside l)) (h a) ∙ ap (λ x. f a ∷ x) (map_same aside f h l)
-
-flat_same : {A B : Type 0} (aside : A → A) (f : A → List B) → ((a : A) → f (aside a) ≡ f a) → (l : List A) → flat_map f (map aside l) ≡ flat_map f l
-flat_same aside f h [] = refl
-flat_same aside f h (a ∷ l) = ap (λ x. x ++ flat_map f (map aside l)) (h a) ∙ ap (λ x. f a ++ x) (flat_same aside f h l)
 
 -- ---- statements
 

@@ -1,18 +1,18 @@
 -- Expressions and statements with their places aside, one layer at a time.
-use Rattle.std.proofs.Common.{◌≡◌, refl, sym, ◌∙◌, ap, ℕ, ℤ, Bool, List, [], ◌∷◌, map, rules}
+use Rattle.std.proofs.Common.{◌≡◌, ℕ, ℤ, Bool, List, map, rules}
 use Rattle.tap_base.specs.declared.ast.AstBranch.{AstBranch}
 use Rattle.tap_base.specs.declared.ast.AstExpr.{AstExpr}
 use Rattle.tap_base.specs.declared.ast.AstKind.{the_lemmas}
 use Rattle.tap_base.specs.declared.ast.AstKind.TheVariants as kind
-use Rattle.tap_base.specs.declared.ast.AstStmt.{AstStmt, the_lemmas as of_stmts}
+use Rattle.tap_base.specs.declared.ast.AstStmt.{the_lemmas as of_stmts}
 use Rattle.tap_base.specs.declared.ast.AstStmt.TheVariants as stmt
 use Rattle.tap_base.specs.declared.ast.AstTarget.{AstTarget}
 use Rattle.tap_base.specs.declared.ast.Ident.{Ident}
 use Rattle.tap_base.specs.declared.place.Place.{Place}
 use Rattle.tap_base.specs.declared.tree.Op.{Op}
-use Rattle.tap_base.specs.Bytes.{start}
-use Rattle.tap_base.specs.PlacesAside.{expr_aside, stmt_aside, branch_aside, target_aside, ident_aside}
-use Rattle.tap_base.specs.SmallGrammar.{node}
+use Rattle.tap_lexer.specs.Bytes.{start}
+use Rattle.tap_lexer.specs.Leaves.{node}
+use Rattle.tap_printer.specs.PlacesAside.{expr_aside, stmt_aside, branch_aside, target_aside, ident_aside}
 
 pub aside_number : (n : ℤ) (p : Place) → expr_aside (node (kind.Number n) p) ≡ node (kind.Number n) start
 aside_number n p = search (rules, the_lemmas)

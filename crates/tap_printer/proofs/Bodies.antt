@@ -1,5 +1,5 @@
 -- What statements are written as, one layer at a time.
-use Rattle.std.proofs.Common.{◌≡◌, refl, sym, ◌∙◌, ap, ℕ, ℤ, List, [], ◌∷◌, ◌++◌, map, append_assoc, rules}
+use Rattle.std.proofs.Common.{◌≡◌, sym, ◌∙◌, ap, ℤ, List, [], ◌∷◌, ◌++◌, map, rules}
 use Rattle.tap_base.specs.declared.ast.AstBranch.{AstBranch}
 use Rattle.tap_base.specs.declared.ast.AstExpr.{AstExpr}
 use Rattle.tap_base.specs.declared.ast.AstStmt.{AstStmt, the_lemmas}
@@ -7,12 +7,11 @@ use Rattle.tap_base.specs.declared.ast.AstStmt.TheVariants as stmt
 use Rattle.tap_base.specs.declared.ast.AstTarget.{AstTarget}
 use Rattle.tap_base.specs.declared.ast.Ident.{Ident}
 use Rattle.tap_base.specs.declared.place.Place.{Place}
-use Rattle.tap_base.specs.declared.token.Sign.{Sign}
 use Rattle.tap_base.specs.declared.token.Sign.TheVariants as sign
-use Rattle.tap_base.specs.Canonical.{separated, stmt_tokens, branch_tokens, target_tokens}
-use Rattle.tap_base.specs.CanonicalExprs.{expr_tokens}
-use Rattle.tap_base.specs.Printed.{Printed, mark, name, number, spelling}
-use Rattle.tap_printer.specs.Pages.{Page, put, after}
+use Rattle.tap_printer.specs.Canonical.{separated, stmt_tokens, branch_tokens, target_tokens}
+use Rattle.tap_printer.specs.CanonicalExprs.{expr_tokens}
+use Rattle.tap_printer.specs.Printed.{Printed, mark, name, number, spelling}
+use Rattle.tap_printer.specs.inner.Pages.{Page, put, after}
 use Rattle.tap_printer.proofs.Appends.{after_append}
 
 -- ---- tokens, by what a statement is

@@ -1,5 +1,5 @@
 -- What is printed of an expression is no longer than the tokens that it was read from, and goes no deeper.
-use Rattle.std.proofs.Common.{◌≡◌, ℕ, ◌<◌, ◌≤◌, refl, sym, ◌∙◌, ap, subst, Bool, true, false, if◌then◌else◌, nat_lt, ltb-true, ltb-false, lt-ltb, List, [], ◌∷◌, ◌++◌, Option, Some, None, arith}
+use Rattle.std.proofs.Common.{◌≡◌, ◌≤◌, refl, sym, ◌∙◌, ap, subst, Bool, true, false, if◌then◌else◌, nat_lt, ltb-true, ltb-false, List, [], ◌∷◌, ◌++◌, Some, arith}
 use Rattle.tap_base.specs.declared.ast.AstExpr.{AstExpr}
 use Rattle.tap_base.specs.declared.ast.AstKind.TheVariants as kind
 use Rattle.tap_base.specs.declared.join.Join.{Join}
@@ -9,17 +9,17 @@ use Rattle.tap_base.specs.declared.token.Sign.{Sign}
 use Rattle.tap_base.specs.declared.token.Sign.TheVariants as sign
 use Rattle.tap_base.specs.declared.tree.Op.{Op}
 use Rattle.tap_base.specs.declared.tree.Op.TheVariants as op
-use Rattle.tap_base.specs.CanonicalExprs.{Phrase, phrase, phrase_of, parenthesized, tightness, tokens_at, expr_tokens_at, expr_tokens, operator, level_of, left_of, right_of, is_choice, truth_sign, operation_tokens}
-use Rattle.tap_base.specs.Grammar.{Level, joined, negation, relation, factor, atom, expression, part_of, joining, relating, choosing, binary, Reads, Goes, done, more, chain, plain, denied, single, related, positive, negative, number, truth, untruth, name, element, part, chosen, group}
-use Rattle.tap_base.specs.Lexeme.{Lexeme}
-use Rattle.tap_base.specs.Printed.{Printed, mark}
-use Rattle.tap_base.specs.Printed as printed
-use Rattle.tap_base.specs.SmallGrammar.{node}
+use Rattle.tap_lexer.specs.Lexeme.{Lexeme}
+use Rattle.tap_lexer.specs.Leaves.{node}
+use Rattle.tap_expr.specs.Grammar.{Level, joined, negation, relation, factor, atom, expression, part_of, joining, relating, choosing, binary, Reads, Goes, done, more, chain, plain, denied, single, related, positive, negative, leaf, number, truth, untruth, name, element, part, chosen, group}
+use Rattle.tap_printer.specs.CanonicalExprs.{Phrase, phrase, phrase_of, parenthesized, tightness, tokens_at, expr_tokens_at, expr_tokens, operator, level_of, left_of, right_of, is_choice, operation_tokens}
+use Rattle.tap_printer.specs.Printed.{mark}
+use Rattle.tap_printer.specs.Printed as printed
 use Rattle.tap_printer.proofs.AgainExprs.{good}
 use Rattle.tap_printer.proofs.Fitting.{is_spelled, may_follow}
 use Rattle.tap_printer.proofs.Fronts.{expr_begins}
 use Rattle.tap_printer.proofs.Phrases.{by_kind, of_number, of_truth, of_name, of_index, of_part, of_not, of_neg, of_binary, infix_is, choice_is}
-use Rattle.tap_printer.proofs.Walks.{Covers, IsPlain, IsOrdinary, nothing, joined_covers, one_mark, one_name, one_number, put_mark, put_name, put_number, wrapped, indexed, round, stripped, bare, dotted, chosen_covers, covers_as}
+use Rattle.tap_printer.proofs.Walks.{Covers, IsPlain, IsOrdinary, joined_covers, one_mark, one_name, one_number, put_mark, put_name, wrapped, indexed, round, stripped, bare, dotted, chosen_covers, covers_as}
 
 -- ---- levels
 
@@ -156,14 +156,14 @@ mutual
   covers (related {a} {b} {x} {o} r i q) = infix_covers o a b relation (relating_is x.sign o i) (covers r) (covers q)
   covers (positive {e} r) = looser factor atom (phrase_of e) (omega arith) (covers r)
   covers (negative {e} {x} i r) = own (node (kind.Neg e) x.place) (phrase factor (mark sign.Minus ∷ expr_tokens_at atom e)) (by_kind _ ∙ of_neg e) (put_mark sign.Minus i (refl, refl, refl, refl) (covers r))
-  covers (number {x} i) = own (node (kind.Number x.value) x.place) (phrase atom (printed.number x.value ∷ [])) (by_kind _ ∙ of_number x.value) (one_number x i)
-  covers (truth {x} i) = own (node (kind.Truth true) x.place) (phrase atom (mark sign.True ∷ [])) (by_kind _ ∙ of_truth true) (one_mark sign.True i (refl, refl, refl, refl))
-  covers (untruth {x} i) = own (node (kind.Truth false) x.place) (phrase atom (mark sign.False ∷ [])) (by_kind _ ∙ of_truth false) (one_mark sign.False i (refl, refl, refl, refl))
-  covers (name {x} i) = own (node (kind.Name x.text) x.place) (phrase atom (printed.name x.text ∷ [])) (by_kind _ ∙ of_name x.text) (one_name x i)
+  covers (leaf (number {x} i)) = own (node (kind.Number x.value) x.place) (phrase atom (printed.number x.value ∷ [])) (by_kind _ ∙ of_number x.value) (one_number x i)
+  covers (leaf (truth {x} i)) = own (node (kind.Truth true) x.place) (phrase atom (mark sign.True ∷ [])) (by_kind _ ∙ of_truth true) (one_mark sign.True i (refl, refl, refl, refl))
+  covers (leaf (untruth {x} i)) = own (node (kind.Truth false) x.place) (phrase atom (mark sign.False ∷ [])) (by_kind _ ∙ of_truth false) (one_mark sign.False i (refl, refl, refl, refl))
+  covers (leaf (name {x} i)) = own (node (kind.Name x.text) x.place) (phrase atom (printed.name x.text ∷ [])) (by_kind _ ∙ of_name x.text) (one_name x i)
   covers (element {x} {e} i o r c) =
       own (node (kind.Index x.text e) x.place) (phrase atom (printed.name x.text ∷ mark sign.OpenIndex ∷ expr_tokens e ++ mark sign.CloseIndex ∷ [])) (by_kind _ ∙ of_index x.text e)
       (put_name x i (indexed o (expr_begins (good r)) (covers r) c))
-  covers (part {x} {z} i o c) =
+  covers (leaf (part {x} {z} i o c)) =
       own (node (kind.Part x.text z.text) x.place) (phrase atom (printed.name x.text ∷ mark sign.Dot ∷ printed.name z.text ∷ [])) (by_kind _ ∙ of_part x.text z.text)
       (dotted x z i o c)
   covers (chosen {x} {o} {a} {b} i p r c q d) = choice_covers o a b (choosing_is x.sign o i) p (covers r) c (covers q) d

@@ -1,5 +1,5 @@
 -- What is printed of declarations, statements and trees is no longer than the tokens that they were read from, and goes no deeper.
-use Rattle.std.proofs.Common.{◌≡◌, ℕ, zero, suc, ◌<◌, ◌≤◌, ◌^◌, refl, sym, ◌∙◌, ap, subst, ℤ, pos, ◌≤ℤ◌, negsuc, neg_ℤ, int_lt, unsigned_abs, Bool, true, false, if◌then◌else◌, List, [], ◌∷◌, ◌++◌, length, map, flat_map, Option, Some, None, append-nil, append_assoc, ltb-true, arith}
+use Rattle.std.proofs.Common.{◌≡◌, ℕ, zero, suc, ◌<◌, ◌^◌, refl, sym, ◌∙◌, ap, subst, ℤ, pos, ◌≤ℤ◌, negsuc, neg_ℤ, int_lt, unsigned_abs, Bool, true, false, if◌then◌else◌, List, [], ◌∷◌, ◌++◌, map, flat_map, Option, append-nil, append_assoc, ltb-true, arith}
 use Rattle.tap_base.specs.declared.ast.Ast.{Ast}
 use Rattle.tap_base.specs.declared.ast.AstAction.{AstAction}
 use Rattle.tap_base.specs.declared.ast.AstBranch.{AstBranch}
@@ -18,24 +18,23 @@ use Rattle.tap_base.specs.declared.ast.Bound.{Bound}
 use Rattle.tap_base.specs.declared.ast.Ident.{Ident}
 use Rattle.tap_base.specs.declared.token.Sign.{Sign}
 use Rattle.tap_base.specs.declared.token.Sign.TheVariants as sign
-use Rattle.tap_base.specs.Canonical.{further, separated, block, optional, ident_tokens, number_tokens, signed_tokens, bound_tokens, scalar_tokens, type_tokens, const_tokens, initial_tokens, var_tokens, fixed_tokens, field_tokens, message_tokens, target_tokens, stmt_tokens, branch_tokens, guard_tokens, action_tokens, process_tokens, tree_tokens}
-use Rattle.tap_base.specs.CanonicalExprs.{expr_tokens}
-use Rattle.tap_base.specs.CanonicalLaws.{IsNatural}
-use Rattle.tap_base.specs.Depth.{opens, closes}
-use Rattle.tap_base.specs.Declarations.{Optional, Block, IsName, IsNumber, IsSigned, IsBound, IsScalar, IsType, IsConst, IsInput, IsVar, IsField, IsMessage}
-use Rattle.tap_base.specs.Declarations as form
-use Rattle.tap_base.specs.Grammar.{Reads, expression}
-use Rattle.tap_base.specs.Lexeme.{Lexeme}
-use Rattle.tap_base.specs.Lists.{Each}
-use Rattle.tap_base.specs.Printed.{Printed, mark, name, number}
-use Rattle.tap_base.specs.SmallGrammar.{Separated, last, more, SomeSeparated, Rows, Row, ident}
-use Rattle.tap_base.specs.SmallGrammar as small
-use Rattle.tap_base.specs.Statements.{IsTarget, IsStmt, AreStmts, IsBranch, AreBranches, IsGuard, IsAction}
-use Rattle.tap_base.specs.Statements as body
-use Rattle.tap_base.specs.Systems.{IsProcess, declared, SpellsOver, system}
+use Rattle.tap_lexer.specs.Depth.{opens, closes}
+use Rattle.tap_lexer.specs.Lexeme.{Lexeme}
+use Rattle.tap_lexer.specs.Leaves.{ident}
+use Rattle.tap_lexer.specs.Rows.{Separated, last, more, SomeSeparated, Rows, Row}
+use Rattle.tap_lexer.specs.Rows as rows
+use Rattle.tap_parser.specs.Declarations.{Optional, Block, IsName, IsNumber, IsSigned, IsBound, IsScalar, IsType, IsConst, IsInput, IsVar, IsField, IsMessage}
+use Rattle.tap_parser.specs.Declarations as form
+use Rattle.tap_parser.specs.Statements.{IsTarget, IsStmt, AreStmts, IsBranch, AreBranches, IsGuard, IsAction}
+use Rattle.tap_parser.specs.Statements as body
+use Rattle.tap_parser.specs.Systems.{IsProcess, declared, SpellsOver, system}
+use Rattle.tap_printer.specs.Canonical.{separated, block, optional, ident_tokens, number_tokens, signed_tokens, bound_tokens, scalar_tokens, type_tokens, const_tokens, initial_tokens, var_tokens, fixed_tokens, field_tokens, message_tokens, target_tokens, stmt_tokens, branch_tokens, guard_tokens, action_tokens, process_tokens, tree_tokens}
+use Rattle.tap_printer.specs.CanonicalExprs.{expr_tokens}
+use Rattle.tap_printer.specs.Printed.{Printed, mark, name, number}
 use Rattle.tap_printer.proofs.Bodies.{of_skip, of_assign, of_choose, of_send, of_start, of_stop, of_select, of_loop, of_branch}
 use Rattle.tap_printer.proofs.Fitting.{IsRead, BeginsExpr}
-use Rattle.tap_printer.proofs.Walks.{Covers, ArePair, ArePrintedPair, IsOrdinary, nothing, joined_covers, one_mark, one_name, one_number, put_mark, put_name, put_number, wrapped, indexed, round, added, signed, dropped, covers_as}
+use Rattle.tap_printer.proofs.Walks.{Covers, ArePrintedPair, IsOrdinary, nothing, joined_covers, one_mark, one_name, one_number, put_mark, put_name, put_number, wrapped, indexed, round, added, signed, dropped, covers_as}
+use Rattle.tap_printer.proofs.Separators.{further_is, block_is, stmts_further, branches_further}
 
 selection : ArePrintedPair sign.If sign.Fi
 selection = record { pair = record { opening = refl; not_closing = refl; closing = refl; not_opening = refl }; spelled = refl; close_spelled = refl; closed = refl }
@@ -50,33 +49,25 @@ unended {p} h = covers_as (append-nil p) h
 -- ---- lists
 
 module _ {A : Type 0} (f : A → List Printed) (Item : A → List Lexeme → List Lexeme → Type 0) (h : (a : A) (ts us : List Lexeme) → Item a ts us → Covers (f a) ts us) where
-  further_is : {s : Sign} {items : List A} {ts us : List Lexeme} → Separated Item s items ts us → further s (map f items) ≡ mark s ∷ separated s (map f items)
-  further_is (last i) = refl
-  further_is (more i e r) = refl
-
-  block_is : (word : Sign) {s : Sign} {items : List A} {ts us : List Lexeme} → Separated Item s items ts us → block word s (map f items) ≡ mark word ∷ separated s (map f items)
-  block_is word (last i) = refl
-  block_is word (more i e r) = refl
-
   separated_covers : {s : Sign} {items : List A} {ts us : List Lexeme} → IsOrdinary s → Separated Item s items ts us → Covers (separated s (map f items)) ts us
   separated_covers plain (last {a} {ts} {us} i) = unended (h a ts us i)
-  separated_covers {s} plain (more {a} {x} {ts} {us} i e r) = covers_as (ap (λ v. f a ++ v) (further_is r)) (joined_covers (h a ts (x ∷ us) i) (put_mark s e plain (separated_covers plain r)))
+  separated_covers {s} plain (more {a} {x} {ts} {us} i e r) = covers_as (ap (λ v. f a ++ v) (further_is f Item r)) (joined_covers (h a ts (x ∷ us) i) (put_mark s e plain (separated_covers plain r)))
 
   some_covers : {s : Sign} {items : List A} {ts us : List Lexeme} → IsOrdinary s → SomeSeparated Item s items ts us → Covers (separated s (map f items)) ts us
-  some_covers plain small.SomeSeparated.none = nothing
-  some_covers plain (small.SomeSeparated.some r) = separated_covers plain r
+  some_covers plain rows.SomeSeparated.none = nothing
+  some_covers plain (rows.SomeSeparated.some r) = separated_covers plain r
 
   block_covers : {word s : Sign} {items : List A} {ts us : List Lexeme} → IsOrdinary word → IsOrdinary s → Block Item word s items ts us → Covers (block word s (map f items)) ts us
   block_covers first plain form.Block.absent = nothing
-  block_covers {word} first plain (form.Block.present e r) = covers_as (block_is word r) (put_mark word e first (separated_covers plain r))
+  block_covers {word} first plain (form.Block.present e r) = covers_as (block_is f Item word r) (put_mark word e first (separated_covers plain r))
 
   rows_cover : {items : List A} {ts us : List Lexeme} → Rows Item items ts us → Covers (flat_map f items) ts us
-  rows_cover small.Rows.none = nothing
-  rows_cover (small.Rows.more {a} {ts} {us} i r) = joined_covers (h a ts us i) (rows_cover r)
+  rows_cover rows.Rows.none = nothing
+  rows_cover (rows.Rows.more {a} {ts} {us} i r) = joined_covers (h a ts us i) (rows_cover r)
 
   row_covers : {items : List A} {ts us : List Lexeme} → Row Item items ts us → Covers (flat_map f items) ts us
-  row_covers (small.Row.last {a} {ts} {us} i) = unended (h a ts us i)
-  row_covers (small.Row.more {a} {ts} {us} i r) = joined_covers (h a ts us i) (row_covers r)
+  row_covers (rows.Row.last {a} {ts} {us} i) = unended (h a ts us i)
+  row_covers (rows.Row.more {a} {ts} {us} i r) = joined_covers (h a ts us i) (row_covers r)
 
 -- ---- declarations
 
@@ -176,14 +167,6 @@ module _ (E : AstExpr → List Lexeme → List Lexeme → Type 0) (h : (e : AstE
   target_covers t ts us (body.IsTarget.whole {x} i) = one_name x i
   target_covers t ts us (body.IsTarget.element {e} {x} {z} {ts = ks} {us = ws} i o r c) = put_name x i (indexed o (b e ks (z ∷ ws) r) (h e ks (z ∷ ws) r) c)
 
-  stmts_further : {ss : List AstStmt} {ts us : List Lexeme} → AreStmts E ss ts us → further sign.Semicolon (map stmt_tokens ss) ≡ mark sign.Semicolon ∷ separated sign.Semicolon (map stmt_tokens ss)
-  stmts_further (body.AreStmts.last i) = refl
-  stmts_further (body.AreStmts.more i e r) = refl
-
-  branches_further : {bs : List AstBranch} {ts us : List Lexeme} → AreBranches E bs ts us → further sign.Box (map branch_tokens bs) ≡ mark sign.Box ∷ separated sign.Box (map branch_tokens bs)
-  branches_further (body.AreBranches.final i) = refl
-  branches_further (body.AreBranches.further i e r) = refl
-
   send_covers : (y u : Lexeme) (values : List AstExpr) {x z w v : Lexeme} {ts us : List Lexeme} → x.sign ≡ sign.Send → y.sign ≡ sign.Name → z.sign ≡ sign.Open → Covers (separated sign.Comma (map expr_tokens values)) ts (w ∷ v ∷ u ∷ us) → w.sign ≡ sign.Close → v.sign ≡ sign.To → u.sign ≡ sign.Name
       → Covers (mark sign.Send ∷ name y.text ∷ mark sign.Open ∷ separated sign.Comma (map expr_tokens values) ++ mark sign.Close ∷ mark sign.To ∷ name u.text ∷ []) (x ∷ y ∷ z ∷ ts) us
   send_covers y u values i j k r l m n =
@@ -208,14 +191,14 @@ module _ (E : AstExpr → List Lexeme → List Lexeme → Type 0) (h : (e : AstE
 
     stmts_cover : {ss : List AstStmt} {ts us : List Lexeme} → AreStmts E ss ts us → Covers (separated sign.Semicolon (map stmt_tokens ss)) ts us
     stmts_cover (body.AreStmts.last i) = unended (stmt_covers i)
-    stmts_cover (body.AreStmts.more {s} i e r) = covers_as (ap (λ v. stmt_tokens s ++ v) (stmts_further r)) (joined_covers (stmt_covers i) (put_mark sign.Semicolon e (refl, refl, refl, refl) (stmts_cover r)))
+    stmts_cover (body.AreStmts.more {s} i e r) = covers_as (ap (λ v. stmt_tokens s ++ v) (stmts_further E r)) (joined_covers (stmt_covers i) (put_mark sign.Semicolon e (refl, refl, refl, refl) (stmts_cover r)))
 
     branch_covers : {b : AstBranch} {ts us : List Lexeme} → IsBranch E b ts us → Covers (branch_tokens b) ts us
     branch_covers (body.IsBranch.guarded {e} {body = ss} {x} {ts} {us} r i s) = covers_as (of_branch (record { guard = e; body = ss })) (joined_covers (h e ts (x ∷ us) r) (put_mark sign.Arrow i (refl, refl, refl, refl) (stmts_cover s)))
 
     branches_cover : {bs : List AstBranch} {ts us : List Lexeme} → AreBranches E bs ts us → Covers (separated sign.Box (map branch_tokens bs)) ts us
     branches_cover (body.AreBranches.final i) = unended (branch_covers i)
-    branches_cover (body.AreBranches.further {b} i e r) = covers_as (ap (λ v. branch_tokens b ++ v) (branches_further r)) (joined_covers (branch_covers i) (put_mark sign.Box e (refl, refl, refl, refl) (branches_cover r)))
+    branches_cover (body.AreBranches.further {b} i e r) = covers_as (ap (λ v. branch_tokens b ++ v) (branches_further E r)) (joined_covers (branch_covers i) (put_mark sign.Box e (refl, refl, refl, refl) (branches_cover r)))
 
   guard_covers : {g : AstGuard} {ts us : List Lexeme} → IsGuard E g ts us → Covers (guard_tokens g) ts us
   guard_covers (body.IsGuard.local {e} {ts} {us} r) = h e ts us r

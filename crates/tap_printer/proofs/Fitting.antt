@@ -1,12 +1,11 @@
 -- Printed tokens that stay apart where nothing stands between them, and those that a text can have.
-use Rattle.std.proofs.Common.{◌≡◌, ℕ, ◌<◌, ◌^◌, ℤ, pos, refl, sym, ◌∙◌, ap, subst, Bool, true, false, if◌then◌else◌, List, [], ◌∷◌, ◌++◌}
+use Rattle.std.proofs.Common.{◌≡◌, ℕ, ◌<◌, ◌^◌, ℤ, pos, refl, sym, ◌∙◌, ap, subst, Bool, true, false, List, [], ◌∷◌, ◌++◌}
 use Rattle.tap_base.specs.declared.token.Sign.{Sign}
 use Rattle.tap_base.specs.declared.token.Sign.TheVariants as sign
 use Rattle.tap_base.specs.declared.token.TokenKind.TheVariants.{Name}
-use Rattle.tap_base.specs.Lexeme.{Lexeme}
-use Rattle.tap_base.specs.Lists.{Each}
-use Rattle.tap_base.specs.Printed.{Printed, mark, name, number, sign_of}
-use Rattle.tap_base.specs.Tokens.{IsToken}
+use Rattle.tap_lexer.specs.Lexeme.{Lexeme}
+use Rattle.tap_lexer.specs.Tokens.{IsToken}
+use Rattle.tap_printer.specs.Printed.{Printed, mark, name, number, sign_of}
 
 -- ---- tokens by themselves
 

@@ -1,16 +1,16 @@
 -- What is printed of an expression begins as an expression does.
-use Rattle.std.proofs.Common.{◌≡◌, refl, sym, ◌∙◌, ap, ℤ, pos, true, List, [], ◌∷◌, map, Option, Some, None}
+use Rattle.std.proofs.Common.{◌≡◌, refl, sym, ◌∙◌, ap, pos, true, List, [], ◌∷◌, map, Some}
 use Rattle.tap_base.specs.declared.ast.AstExpr.{AstExpr}
 use Rattle.tap_base.specs.declared.token.Sign.{Sign}
 use Rattle.tap_base.specs.declared.token.Sign.TheVariants as sign
 use Rattle.tap_base.specs.declared.tree.Op.{Op}
-use Rattle.tap_base.specs.Bytes.{start}
-use Rattle.tap_base.specs.CanonicalExprs.{expr_tokens}
-use Rattle.tap_base.specs.CanonicalLaws.{IsPrinted, Begins, none, next}
-use Rattle.tap_base.specs.Grammar.{Level, choosing, expression, Reads, chain, plain, denied, single, related, positive, negative, number, truth, untruth, name, element, part, chosen, group}
-use Rattle.tap_base.specs.Lexeme.{Lexeme}
-use Rattle.tap_base.specs.Printed.{Printed, mark, sign_of}
-use Rattle.tap_base.specs.Printed as printed
+use Rattle.tap_lexer.specs.Bytes.{start}
+use Rattle.tap_lexer.specs.Lexeme.{Lexeme}
+use Rattle.tap_expr.specs.Grammar.{Level, choosing, expression, Reads, chain, plain, denied, single, related, positive, negative, leaf, number, truth, untruth, name, element, part, chosen, group}
+use Rattle.tap_printer.specs.CanonicalExprs.{expr_tokens}
+use Rattle.tap_printer.specs.CanonicalLaws.{IsPrinted, Begins, none, next}
+use Rattle.tap_printer.specs.Printed.{Printed, mark, sign_of}
+use Rattle.tap_printer.specs.Printed as printed
 use Rattle.tap_printer.proofs.AgainExprs.{IsGood}
 use Rattle.tap_printer.proofs.Fitting.{begins_expr, BeginsExpr}
 
@@ -32,12 +32,12 @@ front (single r) = front r
 front (related r i q) = front r
 front (positive r) = front r
 front (negative i r) = ap begins_expr i
-front (number i) = ap begins_expr i
-front (truth i) = ap begins_expr i
-front (untruth i) = ap begins_expr i
-front (name i) = ap begins_expr i
+front (leaf (number i)) = ap begins_expr i
+front (leaf (truth i)) = ap begins_expr i
+front (leaf (untruth i)) = ap begins_expr i
+front (leaf (name i)) = ap begins_expr i
 front (element i o r c) = ap begins_expr i
-front (part i o c) = ap begins_expr i
+front (leaf (part i o c)) = ap begins_expr i
 front (chosen {x} {o} i p r c q d) = choosing_begins x.sign o i
 front (group i r c) = ap begins_expr i
 

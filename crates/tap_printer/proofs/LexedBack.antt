@@ -1,31 +1,29 @@
 -- The tokens of a text of printed tokens are those.
-use Rattle.std.proofs.Common.{◌≡◌, ℕ, zero, suc, ◌+◌, ◌-◌, ◌<◌, ◌≤◌, ◌^◌, ℤ, pos, Bool, true, false, not, ◌&&◌, ◌||◌, ◌==◌, cond, if◌then◌else◌, nat_le, nat_lt, refl, sym, ◌∙◌, ap, subst, List, [], ◌∷◌, ◌++◌, map, length, take, drop, Option, Some, None, Result, Ok, Err, append_assoc, append-nil, length-append, lt-ltb, inl, inr, ◌⊎◌, arith}
+use Rattle.std.proofs.Common.{◌≡◌, ℕ, ◌+◌, ◌-◌, ◌≤◌, ◌^◌, ℤ, pos, Bool, true, false, not, ◌&&◌, ◌||◌, ◌==◌, cond, if◌then◌else◌, nat_le, refl, sym, ◌∙◌, ap, subst, List, [], ◌∷◌, ◌++◌, length, take, drop, Option, Some, None, Ok, append_assoc, length-append, lt-ltb, arith}
 use Rattle.std.specs.Char.{is_ascii_alphabetic, is_ascii_digit}
-use Rattle.std.specs.Fmt.{signed_decimal}
-use Rattle.std.specs.List.{slice_get, slice_range, prefix_len, list_all}
+use Rattle.std.specs.List.{slice_range, prefix_len, list_all}
 use Rattle.std.specs.Str.Parse.{digits_value}
 use Rattle.std.proofs.Math.Seq.{take-append_seam, drop-append_seam}
+use Rattle.std.proofs.Math.Seq.{take-nil}
 use Rattle.std.proofs.lemmas.Bool.{le-leb}
-use Rattle.std.proofs.lemmas.List.Folds.{drop_split}
 use Rattle.tap_base.specs.declared.place.Place.{Place}
 use Rattle.tap_base.specs.declared.token.Sign.{Sign}
-use Rattle.tap_base.specs.declared.token.Sign.TheVariants as sign
 use Rattle.tap_base.specs.declared.token.Token.{Token}
 use Rattle.tap_base.specs.declared.token.TokenKind.{TokenKind}
 use Rattle.tap_base.specs.declared.token.TokenKind.TheVariants.{Name, Number, Word, Symbol}
-use Rattle.tap_base.specs.Bytes.{is_blank, in_word, start, after, along}
-use Rattle.tap_base.specs.CanonicalLaws.{IsPrinted, Begins, none, next, ArePrinted}
-use Rattle.tap_base.specs.Lexeme.{Lexeme, lexeme, lexemes}
-use Rattle.tap_base.specs.Printed.{Printed, mark, name, number, sign_of, bytes_of, spelling, Joint, line_feed, nothing, one_space, joint, joint_bytes, before_token, text_behind, text_of}
-use Rattle.tap_base.specs.Tokens.{AllPass, IsToken, Longest, value, Outcome, before, Lexes, SpellsTokens}
-use Rattle.tap_base.specs.Tokens as lexing
-use Rattle.tap_base.specs.Words.{words, symbols, is_in}
-use Rattle.tap_base.specs.Words as listed
-use Rattle.tap_lexer.specs.Lexing.{word_kind}
-use Rattle.tap_lexer.proofs.Pieces.{word_longest, number_longest, two_longest, one_longest, starts_symbol}
+use Rattle.tap_lexer.specs.Bytes.{is_blank, in_word, start, after, along}
+use Rattle.tap_lexer.specs.Lexeme.{lexemes}
+use Rattle.tap_lexer.specs.Tokens.{AllPass, IsToken, Longest, value, Outcome, before, Lexes, SpellsTokens}
+use Rattle.tap_lexer.specs.Tokens as lexing
+use Rattle.tap_lexer.specs.Words.{words, symbols, is_in}
+use Rattle.tap_lexer.specs.Words as listed
+use Rattle.tap_lexer.specs.inner.Lexing.{word_kind}
+use Rattle.tap_lexer.proofs.Pieces.{letter_in_word, word_longest, number_longest, two_longest, one_longest, starts_symbol}
 use Rattle.tap_lexer.proofs.Shapes.{no_empty, all_pass}
-use Rattle.tap_printer.proofs.Apart.{SpelledAs, as_word, as_one, as_two, spelled_as, is_symbol, ends_at, feed_ends, space_ends, next_ends, Digits, digits_of}
-use Rattle.tap_printer.proofs.Fitting.{is_spelled, may_follow, Fit, IsProper, AreProper}
+use Rattle.tap_printer.specs.CanonicalLaws.{IsPrinted, Begins, none, next, ArePrinted}
+use Rattle.tap_printer.specs.Printed.{Printed, mark, name, number, sign_of, bytes_of, spelling, Joint, line_feed, nothing, one_space, joint, joint_bytes, before_token, text_behind, text_of}
+use Rattle.tap_printer.proofs.Apart.{SpelledAs, as_word, as_one, as_two, spelled_as, ends_at, feed_ends, space_ends, next_ends, Digits, digits_of}
+use Rattle.tap_printer.proofs.Fitting.{may_follow, Fit, IsProper, AreProper}
 
 -- ---- runs of bytes
 
@@ -39,9 +37,6 @@ run_ends p [] c cs h e = ap (λ v. cond v (1 + prefix_len p cs) 0) (not_false (p
 run_ends p (b ∷ w) c cs h e =
     let r = run_ends p w c cs h.1 e in
     ap (λ v. cond v (1 + prefix_len p (w ++ c ∷ cs)) 0) h.0 ∙ omega (arith, r)
-
-letter_in_word : (b : ℕ) → is_ascii_alphabetic b ≡ true → in_word b ≡ true
-letter_in_word b h = ap (λ v. v || (is_ascii_digit b || (b == 95))) h
 
 no_digit : (c : ℕ) → not (in_word c) ≡ true → not (is_ascii_digit c) ≡ true
 no_digit c = go (is_ascii_alphabetic c) (is_ascii_digit c) (c == 95)
@@ -203,12 +198,8 @@ behind_gap text ts bs g (one_gap b is) at p h =
     let r = h (at + 1) (after b p) refl in
     record { tokens = r.tokens; lexes = lexing.blank is r.lexes; printed = r.printed }
 
-none_taken : (n : ℕ) → take {A = ℕ} n [] ≡ []
-none_taken zero = refl
-none_taken (suc n) = refl
-
 token_lexes : (all : List ℕ) (k : TokenKind) (n : ℕ) (v : ℤ) (at : ℕ) (p : Place) (r : Outcome) → Longest k n all → value k (take n all) ≡ Some v → Lexes (at + n) (along n p) (drop n all) r → Lexes at p all (before (record { kind = k; start = at; end = at + n; value = v; place = p } ∷ []) r)
-token_lexes [] k n v at p r l e h = absurd (no_empty k (subst (λ w. IsToken k w) (none_taken n) l.token))
+token_lexes [] k n v at p r l e h = absurd (no_empty k (subst (λ w. IsToken k w) (take-nil n) l.token))
 token_lexes (b ∷ bs) k n v at p r l e h = lexing.token l e h
 
 slice_is : (text pre w rest : List ℕ) (at : ℕ) → text ≡ pre ++ (w ++ rest) → at ≡ length pre → slice_range text at (at + length w) ≡ w

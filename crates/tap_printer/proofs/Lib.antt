@@ -19,6 +19,7 @@ pub mod Loosened
 pub mod Phrases
 pub mod Printing
 pub mod ReadBack
+pub mod Separators
 pub mod Views
 pub mod Walks
 pub mod Worked

@@ -1,24 +1,24 @@
 -- What is printed keeps the limits that the tokens keep that it was read from.
-use Rattle.std.proofs.Common.{◌≡◌, refl, sym, ◌∙◌, ap, subst, ℕ, ◌-◌, ◌<◌, ◌≤◌, List, [], ◌∷◌, length, drop, length-drop, Option, Some, None, arith}
+use Rattle.std.proofs.Common.{◌≡◌, sym, ◌∙◌, ap, subst, ◌≤◌, List, [], ◌∷◌, length, drop, length-drop, Some, arith}
 use Rattle.tap_base.specs.declared.ast.Ast.{Ast}
 use Rattle.tap_base.specs.declared.ast.AstExpr.{AstExpr}
-use Rattle.tap_base.specs.Canonical.{tree_tokens}
-use Rattle.tap_base.specs.CanonicalExprs.{expr_tokens}
-use Rattle.tap_base.specs.CanonicalLaws.{ArePrinted, IsNatural, LimitsKept, Fewest}
-use Rattle.tap_base.specs.Grammar.{Reads, expression}
-use Rattle.tap_base.specs.Lexeme.{Lexeme}
-use Rattle.tap_base.specs.Lists.{Each}
-use Rattle.tap_base.specs.Nodes.{nodes, most_nodes}
-use Rattle.tap_base.specs.PlacesAside.{expr_aside, SameTree}
-use Rattle.tap_base.specs.Systems.{SpellsOver, SpellsText, SpellsTo, Sized, IsTree}
-use Rattle.tap_base.proofs.Weaker.{weaker}
+use Rattle.tap_lexer.specs.Lexeme.{Lexeme}
+use Rattle.tap_expr.specs.Grammar.{Reads, expression}
+use Rattle.tap_expr.specs.Nodes.{nodes, most_nodes}
+use Rattle.tap_expr.proofs.ExprFronts.{no_front}
+use Rattle.tap_parser.specs.Systems.{SpellsOver, SpellsText, SpellsTo, Sized}
+use Rattle.tap_parser.proofs.Weaker.{weaker}
+use Rattle.tap_printer.specs.Canonical.{tree_tokens}
+use Rattle.tap_printer.specs.CanonicalExprs.{expr_tokens}
+use Rattle.tap_printer.specs.CanonicalLaws.{LimitsKept, Fewest}
+use Rattle.tap_printer.specs.PlacesAside.{expr_aside}
 use Rattle.tap_printer.proofs.AgainExprs.{good}
-use Rattle.tap_printer.proofs.AgainTrees.{tree_again, nothing_reads}
+use Rattle.tap_printer.proofs.AgainTrees.{tree_again}
 use Rattle.tap_printer.proofs.AsideTokens.{expr_alike, printed_alike}
 use Rattle.tap_printer.proofs.CoversExprs.{covers}
 use Rattle.tap_printer.proofs.CoversForms.{tree_covers}
 use Rattle.tap_printer.proofs.Fronts.{expr_begins}
-use Rattle.tap_printer.proofs.Printing.{Read, ReadsAgain}
+use Rattle.tap_printer.proofs.Printing.{ReadsAgain}
 use Rattle.tap_printer.proofs.Walks.{Covers, still_shallow, no_longer}
 
 -- an expression that begins anywhere, with few nodes
@@ -30,7 +30,7 @@ none_left ts = let l = length-drop (length ts) ts in omega (arith, l)
 
 few : (e : AstExpr) (ts us : List Lexeme) → Small e ts us → nodes e ≤ most_nodes
 unfolding Small
-few e [] us s = absurd (nothing_reads s.0)
+few e [] us s = absurd (no_front s.0)
 few e (x ∷ ts) us s = s.1 (omega arith)
 
 as_many : (d e : AstExpr) → expr_aside d ≡ expr_aside e → nodes d ≡ nodes e
@@ -46,7 +46,7 @@ small_again e ts us s all end g =
 
 not_nothing : (e : AstExpr) (us : List Lexeme) → Small e [] us → ⊥
 unfolding Small
-not_nothing e us s = nothing_reads s.0
+not_nothing e us s = no_front s.0
 
 as_read : (e : AstExpr) (ts us : List Lexeme) → Small e ts us → Reads expression e ts us
 unfolding Small

@@ -1,14 +1,11 @@
 -- What loops over items keep: what is written, and then the items that are left, are the whole.
-use Rattle.std.proofs.Common.{◌≡◌, refl, sym, ◌∙◌, ap, ℕ, ◌+◌, ◌<◌, List, [], ◌∷◌, ◌++◌, map, flat_map, drop, length, get_or}
-use Rattle.std.proofs.lemmas.List.{drop_more}
+use Rattle.std.proofs.Common.{◌≡◌, sym, ◌∙◌, ap, ℕ, ◌+◌, ◌<◌, List, map, flat_map, drop, length, get_or}
 use Rattle.tap_base.specs.declared.token.Sign.{Sign}
-use Rattle.tap_base.specs.Printed.{Printed, mark, spelling}
-use Rattle.tap_base.specs.Canonical.{further}
-use Rattle.tap_printer.specs.Pages.{Page, put, after}
+use Rattle.tap_base.proofs.ListFacts.{cut_at_item}
+use Rattle.tap_printer.specs.Printed.{Printed, spelling}
+use Rattle.tap_printer.specs.Canonical.{further}
+use Rattle.tap_printer.specs.inner.Pages.{Page, put, after}
 use Rattle.tap_printer.proofs.Appends.{after_append}
-
-here : {A : Type 0} (items : List A) (i : ℕ) (x : A) → i < length items → x ≡ get_or items i x → drop i items ≡ x ∷ drop (i + 1) items
-here items i x h e = drop_more items i x h ∙ ap (λ y. y ∷ drop (i + 1) items) (sym e)
 
 module _ {A : Type 0} (f : A → List Printed) where
   pub one_further : (s : Sign) (items : List A) (i : ℕ) (x : A) (whole p q r : Page) → i < length items → x ≡ get_or items i x → after p (further s (map f (drop i items))) ≡ whole
@@ -16,7 +13,7 @@ module _ {A : Type 0} (f : A → List Printed) where
   one_further s items i x whole p q r h e w hq hr =
       ap (λ y. after y (further s (map f (drop (i + 1) items)))) (hr ∙ ap (λ y. after y (f x)) hq)
       ∙ sym (after_append (put p s (spelling s)) (f x) (further s (map f (drop (i + 1) items))))
-      ∙ ap (λ y. after p (further s (map f y))) (sym (here items i x h e))
+      ∙ ap (λ y. after p (further s (map f y))) (sym (cut_at_item items i x h e))
       ∙ w
 
   pub one_more : (items : List A) (i : ℕ) (x : A) (whole p r : Page) → i < length items → x ≡ get_or items i x → after p (flat_map f (drop i items)) ≡ whole
@@ -24,5 +21,5 @@ module _ {A : Type 0} (f : A → List Printed) where
   one_more items i x whole p r h e w hr =
       ap (λ y. after y (flat_map f (drop (i + 1) items))) hr
       ∙ sym (after_append p (f x) (flat_map f (drop (i + 1) items)))
-      ∙ ap (λ y. after p (flat_map f y)) (sym (here items i x h e))
+      ∙ ap (λ y. after p (flat_map f y)) (sym (cut_at_item items i x h e))
       ∙ w

@@ -1,10 +1,10 @@
 -- An expression of a level is one of every looser level.
-use Rattle.std.proofs.Common.{◌≡◌, Bool, true, false, nat_lt, List}
+use Rattle.std.proofs.Common.{◌≡◌, false, nat_lt, List}
 use Rattle.tap_base.specs.declared.ast.AstExpr.{AstExpr}
 use Rattle.tap_base.specs.declared.join.Join.TheVariants.{Disjunction, Conjunction, Sum, Term}
-use Rattle.tap_base.specs.CanonicalExprs.{tightness}
-use Rattle.tap_base.specs.Grammar.{Level, joined, negation, relation, factor, atom, Reads, done, chain, plain, single, positive}
-use Rattle.tap_base.specs.Lexeme.{Lexeme}
+use Rattle.tap_lexer.specs.Lexeme.{Lexeme}
+use Rattle.tap_expr.specs.Grammar.{Level, joined, negation, relation, factor, atom, Reads, done, chain, plain, single, positive}
+use Rattle.tap_printer.specs.CanonicalExprs.{tightness}
 
 pub loosened : (l m : Level) {e : AstExpr} {ts us : List Lexeme} → nat_lt (tightness m) (tightness l) ≡ false → Reads m e ts us → Reads l e ts us
 loosened (joined Disjunction) (joined Disjunction) h r = r

@@ -1,16 +1,15 @@
 -- What expressions are written as, one layer at a time.
-use Rattle.std.proofs.Common.{◌≡◌, refl, sym, ◌∙◌, ap, subst, ℕ, ℤ, Bool, true, false, if◌then◌else◌, append_assoc, List, [], ◌∷◌, ◌++◌, rules}
+use Rattle.std.proofs.Common.{◌≡◌, sym, ◌∙◌, ap, ℕ, ℤ, Bool, true, false, if◌then◌else◌, append_assoc, List, [], ◌∷◌, ◌++◌, rules}
 use Rattle.tap_base.specs.declared.ast.AstExpr.{AstExpr}
 use Rattle.tap_base.specs.declared.ast.AstKind.{AstKind, the_lemmas, fold-AstKind}
 use Rattle.tap_base.specs.declared.ast.AstKind.TheVariants as kind
-use Rattle.tap_base.specs.declared.place.Place.{Place}
 use Rattle.tap_base.specs.declared.token.Sign.{Sign}
 use Rattle.tap_base.specs.declared.token.Sign.TheVariants as sign
 use Rattle.tap_base.specs.declared.tree.Op.{Op}
-use Rattle.tap_base.specs.CanonicalExprs.{Phrase, phrase, phrase_step, phrase_of, level_of, left_of, right_of, is_choice, operation_tokens, infix_tokens, choice_tokens, operator, tokens_at, expr_tokens_at, truth_sign}
-use Rattle.tap_base.specs.Grammar.{Level, atom, negation, relation, factor, expression}
-use Rattle.tap_base.specs.Printed.{Printed, mark, name, number, spelling}
-use Rattle.tap_printer.specs.Pages.{Page, put, after}
+use Rattle.tap_expr.specs.Grammar.{Level, atom, negation, relation, factor, expression}
+use Rattle.tap_printer.specs.CanonicalExprs.{Phrase, phrase, phrase_step, phrase_of, level_of, left_of, right_of, is_choice, operation_tokens, infix_tokens, choice_tokens, operator, tokens_at, expr_tokens_at, truth_sign}
+use Rattle.tap_printer.specs.Printed.{Printed, mark, name, number, spelling}
+use Rattle.tap_printer.specs.inner.Pages.{Page, put, after}
 use Rattle.tap_printer.proofs.Appends.{after_append}
 
 abbrev pub phrase_of_kind : AstKind → Phrase

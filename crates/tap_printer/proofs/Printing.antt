@@ -1,8 +1,8 @@
 -- Tokens that begin with printed ones.
-use Rattle.std.proofs.Common.{◌≡◌, refl, List, [], ◌∷◌, ◌++◌}
-use Rattle.tap_base.specs.CanonicalLaws.{IsPrinted, Begins, none, next}
-use Rattle.tap_base.specs.Lexeme.{Lexeme}
-use Rattle.tap_base.specs.Printed.{Printed}
+use Rattle.std.proofs.Common.{◌≡◌, List, [], ◌∷◌, ◌++◌}
+use Rattle.tap_lexer.specs.Lexeme.{Lexeme}
+use Rattle.tap_printer.specs.CanonicalLaws.{IsPrinted, Begins, none, next}
+use Rattle.tap_printer.specs.Printed.{Printed}
 
 -- where printed tokens stand one behind the other, the tokens between them
 pub record Parts (first second : List Printed) (ts us : List Lexeme) : Type 0 where

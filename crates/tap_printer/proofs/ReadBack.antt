@@ -1,34 +1,33 @@
 -- The canonical text of a tree that a text spells is that tree, places aside.
-use Rattle.std.proofs.Common.{◌≡◌, ℕ, zero, suc, ◌+◌, ◌<◌, ◌^◌, ℤ, pos, Bool, true, false, if◌then◌else◌, nat_lt, ltb-true, refl, sym, ◌∙◌, ap, subst, List, [], ◌∷◌, map, Option, Some, None, Ok, Err, arith}
-use Rattle.std.specs.List.{slice_get, slice_range, list_all}
+use Rattle.std.proofs.Common.{◌≡◌, ℕ, suc, ◌^◌, ℤ, pos, Bool, true, false, if◌then◌else◌, nat_lt, ltb-true, refl, sym, ◌∙◌, ap, subst, List, [], ◌∷◌, Option, Some, None}
+use Rattle.std.specs.List.{slice_range, list_all}
 use Rattle.std.specs.Option.{is_some}
 use Rattle.std.specs.Str.{bytes_eq}
 use Rattle.std.specs.Str.Parse.{digits_value}
-use Rattle.tap_base.specs.declared.ast.Ast.{Ast}
 use Rattle.tap_base.specs.declared.token.Sign.{Sign}
 use Rattle.tap_base.specs.declared.token.Sign.TheVariants as sign
 use Rattle.tap_base.specs.declared.token.Token.{Token}
 use Rattle.tap_base.specs.declared.token.TokenKind.{TokenKind}
 use Rattle.tap_base.specs.declared.token.TokenKind.TheVariants.{Name, Number, Word, Symbol}
-use Rattle.tap_base.specs.Bytes.{start}
-use Rattle.tap_base.specs.Canonical.{tree_tokens, canonical}
-use Rattle.tap_base.specs.CanonicalLaws.{TokensAgain, ReadAgain, ReadAgainOnly}
-use Rattle.tap_base.specs.Lexeme.{Lexeme, lexeme, lexemes}
 use Rattle.tap_base.specs.Lists.{Each}
-use Rattle.tap_base.specs.Spans.{IsText, AreTexts}
-use Rattle.tap_base.specs.Systems.{SpellsText, IsTree}
-use Rattle.tap_base.specs.Tokens.{IsToken, value, Outcome, SpellsTokens}
-use Rattle.tap_base.specs.Words.{Table, words, symbols, sign_in, is_in, listed, sign_of}
-use Rattle.tap_base.specs.PlacesAside.{places_aside}
-use Rattle.tap_lexer.proofs.One.{one_text}
+use Rattle.tap_lexer.specs.Bytes.{start}
+use Rattle.tap_lexer.specs.Lexeme.{Lexeme, lexeme, lexemes}
+use Rattle.tap_lexer.specs.Spans.{IsText, AreTexts}
+use Rattle.tap_lexer.specs.Tokens.{IsToken, value}
+use Rattle.tap_lexer.specs.Words.{Table, words, symbols, sign_in, is_in, listed, sign_of}
+use Rattle.tap_lexer.proofs.One.{same_tokens}
 use Rattle.tap_lexer.proofs.Spans.{spelled_texts}
 use Rattle.tap_lexer.proofs.Tables.{and_left, and_right}
+use Rattle.tap_parser.specs.Systems.{SpellsText}
 use Rattle.tap_parser.proofs.TextOneTree.{one_text as one_tree}
+use Rattle.tap_printer.specs.Canonical.{tree_tokens, canonical}
+use Rattle.tap_printer.specs.CanonicalLaws.{TokensAgain, ReadAgain, ReadAgainOnly}
+use Rattle.tap_printer.specs.PlacesAside.{places_aside}
 use Rattle.tap_printer.proofs.AsideTokens.{canonical_alike}
-use Rattle.tap_printer.proofs.Fitting.{is_spelled, IsRead, IsSound, AreProper, Fit}
+use Rattle.tap_printer.proofs.Fitting.{is_spelled, IsRead, IsSound}
 use Rattle.tap_printer.proofs.LexedBack.{text_lexed}
 use Rattle.tap_printer.proofs.Limits.{covered, limits_kept}
-use Rattle.tap_printer.proofs.Walks.{Covers, all_proper}
+use Rattle.tap_printer.proofs.Walks.{all_proper}
 
 -- ---- signs of tokens
 
@@ -111,15 +110,6 @@ read_again text tokens tree lexes t =
     let r = tokens_again text tokens tree lexes t.spelled in
     let k = limits_kept (lexemes text tokens) (lexemes (canonical tree) r.0) tree t r.2 in
     (r.0, k.0, r.1, k.1, k.2, canonical_alike k.0 tree k.2)
-
--- the tokens of an outcome
-tokens_of : Outcome → List Token
-tokens_of (Ok tokens) = tokens
-tokens_of (Err refusal) = []
-
-same_tokens : (text : List ℕ) (s t : List Token) → SpellsTokens text s → SpellsTokens text t → s ≡ t
-unfolding tokens_of
-same_tokens text s t h k = ap tokens_of (one_text text (Ok s) (Ok t) h k)
 
 pub read_again_only : ReadAgainOnly
 read_again_only text tokens tree lexes t again d lexed is =

@@ -1,14 +1,14 @@
 -- Brackets along a list of signs: how deep they go, and what is printed goes no deeper than what it was read from.
-use Rattle.std.proofs.Common.{◌≡◌, ℤ, ℕ, zero, suc, ◌+◌, ◌<◌, ◌≤◌, refl, sym, ◌∙◌, ap, subst, Bool, true, false, List, [], ◌∷◌, ◌++◌, length, take, Some, None, arith, append_assoc, append-nil, length-append, inl, inr, ◌⊎◌}
+use Rattle.std.proofs.Common.{◌≡◌, ℤ, ℕ, zero, suc, ◌+◌, ◌<◌, ◌≤◌, refl, sym, ◌∙◌, ap, subst, Bool, true, false, List, [], ◌∷◌, ◌++◌, length, take, Some, arith, append_assoc, append-nil, length-append, inl, inr, ◌⊎◌}
 use Rattle.std.proofs.lemmas.Bool.{cases_lt}
 use Rattle.std.specs.List.{slice_get}
 use Rattle.tap_base.specs.declared.token.Sign.{Sign}
 use Rattle.tap_base.specs.declared.token.Sign.TheVariants as sign
-use Rattle.tap_base.specs.CanonicalLaws.{IsPrinted, Begins, none, next, IsNatural}
-use Rattle.tap_base.specs.Depth.{opens, closes, one_if, count_signs, deepest, OpensAt, IsShallow}
-use Rattle.tap_base.specs.Lexeme.{Lexeme}
 use Rattle.tap_base.specs.Lists.{Each}
-use Rattle.tap_base.specs.Printed.{Printed, mark, name, number, sign_of}
+use Rattle.tap_lexer.specs.Depth.{opens, closes, one_if, count_signs, deepest, OpensAt, IsShallow}
+use Rattle.tap_lexer.specs.Lexeme.{Lexeme}
+use Rattle.tap_printer.specs.CanonicalLaws.{IsPrinted, Begins, none, next, IsNatural}
+use Rattle.tap_printer.specs.Printed.{Printed, mark, name, number, sign_of}
 use Rattle.tap_printer.proofs.Fitting.{is_spelled, IsRead, IsSound, IsProper, AreProper, proper_append, proper_front, is_closed, may_follow, Fit, last_sign, IsPhrase, phrase_none, phrase_one, phrase_append, phrase_wrapped, phrase_bare, phrase_dotted, phrase_chosen, BeginsExpr, inside_index, ended_index}
 
 -- ---- walks over things that have signs

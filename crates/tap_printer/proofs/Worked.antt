@@ -1,16 +1,16 @@
 -- Canonical tokens and texts worked on small trees.
-use Rattle.std.proofs.Common.{◌≡◌, ◌∙◌, ap, ◌++◌, pos, codes, arith, rules}
+use Rattle.std.proofs.Common.{◌∙◌, ap, ◌++◌, pos, codes, arith, rules}
 use Rattle.std.proofs.lemmas.Fmt.{decimal_digit}
 use Rattle.tap_base.specs.declared.ast.AstKind.{the_lemmas as of_exprs}
 use Rattle.tap_base.specs.declared.ast.AstStmt.{the_lemmas as of_stmts}
 use Rattle.tap_base.specs.declared.ast.AstKind.TheVariants as kind
-use Rattle.tap_base.specs.Bytes.{start}
-use Rattle.tap_base.specs.CanonicalExprs.{tokens_at}
-use Rattle.tap_base.specs.Grammar.{expression}
-use Rattle.tap_base.specs.Printed.{text_of}
-use Rattle.tap_base.specs.SmallGrammar.{node}
+use Rattle.tap_lexer.specs.Bytes.{start}
+use Rattle.tap_lexer.specs.Leaves.{node}
+use Rattle.tap_expr.specs.Grammar.{expression}
+use Rattle.tap_printer.specs.CanonicalExprs.{tokens_at}
+use Rattle.tap_printer.specs.Printed.{text_of}
 use Rattle.tap_printer.proofs.Phrases.{by_kind, of_number}
-use Rattle.tap_base.specs.WorkedCanonical.{RightKept, LeftDropped, MinusTakesAnAtom, MinusBehindMinus, NotBelowARelation, NotOfARelation, RelationOfARelation, ChoiceJoints, IndexJoints, PartJoints, NoLeadingZeros, LinesOfAProcess}
+use Rattle.tap_printer.specs.WorkedCanonical.{RightKept, LeftDropped, MinusTakesAnAtom, MinusBehindMinus, NotBelowARelation, NotOfARelation, RelationOfARelation, ChoiceJoints, IndexJoints, PartJoints, NoLeadingZeros, LinesOfAProcess}
 
 pub right_kept : RightKept
 right_kept = search (rules, of_exprs)

@@ -2,9 +2,9 @@
 #![tactic(auto, using(crate::proofs::Appends::after_append))]
 
 ghost use Rattle.std.specs.Prelude.{◌≡◌, List, OnOk};
-ghost use Rattle.tap_base.specs.Canonical.{bound_tokens, const_tokens, field_tokens, fixed_tokens, ident_tokens, initial_tokens, message_tokens, optional, scalar_tokens, signed_tokens, type_tokens, var_tokens};
-ghost use Rattle.tap_base.specs.Printed.{Printed};
-ghost use Rattle.tap_printer.specs.Pages.{after};
+ghost use Rattle.tap_printer.specs.Canonical.{bound_tokens, const_tokens, field_tokens, fixed_tokens, ident_tokens, initial_tokens, message_tokens, optional, scalar_tokens, signed_tokens, type_tokens, var_tokens};
+ghost use Rattle.tap_printer.specs.Printed.{Printed};
+ghost use Rattle.tap_printer.specs.inner.Pages.{after};
 
 use crate::pen::Pen;
 use crate::written::{Written, write_separated};

@@ -2,10 +2,10 @@
 #![tactic(auto, using(crate::proofs::Appends::after_append))]
 
 ghost use Rattle.std.specs.Prelude.{◌≡◌, List, OnOk};
-ghost use Rattle.tap_base.specs.CanonicalExprs.{expr_tokens, expr_tokens_at, phrase_of};
-ghost use Rattle.tap_base.specs.Printed.{Printed};
-ghost use Rattle.tap_printer.specs.Levels.{as_level};
-ghost use Rattle.tap_printer.specs.Pages.{after};
+ghost use Rattle.tap_printer.specs.CanonicalExprs.{expr_tokens, expr_tokens_at, phrase_of};
+ghost use Rattle.tap_printer.specs.Printed.{Printed};
+ghost use Rattle.tap_printer.specs.inner.Levels.{as_level};
+ghost use Rattle.tap_printer.specs.inner.Pages.{after};
 
 use crate::level::{Level, is_choice, left_side, operation, operator, right_side};
 use crate::pen::Pen;

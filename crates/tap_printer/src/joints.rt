@@ -1,7 +1,7 @@
 //! What stands between two tokens.
 
 ghost use Rattle.std.specs.Prelude.{◌≡◌};
-ghost use Rattle.tap_base.specs.Printed.{begins_line, joins_after, joins_before, joint, joint_bytes};
+ghost use Rattle.tap_printer.specs.Printed.{begins_line, joins_after, joins_before, joint, joint_bytes};
 
 use tap_base::Sign;
 

@@ -1,7 +1,7 @@
 //! What the definition of canonical texts promises by itself.
 
-ghost use Rattle.tap_base.specs.CanonicalLaws.{Fewest, LimitsKept, ReadAgain, ReadAgainOnly, SpelledAgain, TokensAgain};
-ghost use Rattle.tap_base.specs.WorkedCanonical.{ChoiceJoints, IndexJoints, LeftDropped, LinesOfAProcess, MinusBehindMinus, MinusTakesAnAtom, NoLeadingZeros, NotBelowARelation, NotOfARelation, PartJoints, RelationOfARelation, RightKept};
+ghost use Rattle.tap_printer.specs.CanonicalLaws.{Fewest, LimitsKept, ReadAgain, ReadAgainOnly, SpelledAgain, TokensAgain};
+ghost use Rattle.tap_printer.specs.WorkedCanonical.{ChoiceJoints, IndexJoints, LeftDropped, LinesOfAProcess, MinusBehindMinus, MinusTakesAnAtom, NoLeadingZeros, NotBelowARelation, NotOfARelation, PartJoints, RelationOfARelation, RightKept};
 
 /// Tokens that are the canonical ones of a tree that some tokens spell spell that tree again, places
 /// aside.

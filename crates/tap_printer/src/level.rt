@@ -1,8 +1,8 @@
 //! The levels of the grammar of expressions.
 
 ghost use Rattle.std.specs.Prelude.{◌≡◌};
-ghost use Rattle.tap_base.specs.CanonicalExprs.{is_choice, left_of, level_of, operator, right_of, tightness};
-ghost use Rattle.tap_printer.specs.Levels.{as_level};
+ghost use Rattle.tap_printer.specs.CanonicalExprs.{is_choice, left_of, level_of, operator, right_of, tightness};
+ghost use Rattle.tap_printer.specs.inner.Levels.{as_level};
 
 use tap_base::{Join, Op, Sign};
 

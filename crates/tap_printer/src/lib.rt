@@ -9,8 +9,6 @@ mod level;
 mod pen;
 mod spellings;
 mod stmts;
-#[cfg(test)]
-mod tests;
 mod whole;
 mod written;
 

@@ -3,8 +3,8 @@
 ghost use Rattle.std.specs.Prelude.{◌≡◌, [], ◌∷◌, ◌++◌, pos, Some, IfOk, OnOk, codes};
 ghost use Rattle.std.specs.Fmt.{decimal, signed_decimal};
 ghost use Rattle.tap_base.specs.declared.token.Sign.TheVariants as sign;
-ghost use Rattle.tap_base.specs.Printed.{before_token, bytes_of, mark, name, number};
-ghost use Rattle.tap_printer.specs.Pages.{blank, put};
+ghost use Rattle.tap_printer.specs.Printed.{before_token, bytes_of, mark, name, number};
+ghost use Rattle.tap_printer.specs.inner.Pages.{blank, put};
 
 use crate::joints::joint_between;
 use crate::spellings::spelled;
@@ -22,7 +22,7 @@ pub struct Pen {
 
 impl Model for Pen {
     ghost use Rattle.std.specs.Prelude.{string_bytes};
-    ghost use Rattle.tap_printer.specs.Pages.{Page};
+    ghost use Rattle.tap_printer.specs.inner.Pages.{Page};
 
     ghost Value = { Page };
 

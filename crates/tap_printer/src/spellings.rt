@@ -1,7 +1,7 @@
 //! How words and symbols are spelled.
 
 ghost use Rattle.std.specs.Prelude.{◌≡◌};
-ghost use Rattle.tap_base.specs.Printed.{spelling};
+ghost use Rattle.tap_printer.specs.Printed.{spelling};
 
 use tap_base::Sign;
 

@@ -2,9 +2,9 @@
 #![tactic(auto, using(crate::proofs::Appends::after_append))]
 
 ghost use Rattle.std.specs.Prelude.{◌≡◌, List, map, OnOk};
-ghost use Rattle.tap_base.specs.Canonical.{action_tokens, branch_tokens, guard_tokens, index_tokens, separated, stmt_tokens, target_tokens};
-ghost use Rattle.tap_base.specs.Printed.{Printed};
-ghost use Rattle.tap_printer.specs.Pages.{after};
+ghost use Rattle.tap_printer.specs.Canonical.{action_tokens, branch_tokens, guard_tokens, index_tokens, separated, stmt_tokens, target_tokens};
+ghost use Rattle.tap_printer.specs.Printed.{Printed};
+ghost use Rattle.tap_printer.specs.inner.Pages.{after};
 
 use crate::pen::Pen;
 use crate::written::{Written, write_separated};

@@ -2,9 +2,9 @@
 #![tactic(auto, using(crate::proofs::Appends::after_append))]
 
 ghost use Rattle.std.specs.Prelude.{◌≡◌, List, IfOk, OnOk};
-ghost use Rattle.tap_base.specs.Canonical.{canonical, process_tokens, tree_tokens};
-ghost use Rattle.tap_base.specs.Printed.{Printed};
-ghost use Rattle.tap_printer.specs.Pages.{after};
+ghost use Rattle.tap_printer.specs.Canonical.{canonical, process_tokens, tree_tokens};
+ghost use Rattle.tap_printer.specs.Printed.{Printed};
+ghost use Rattle.tap_printer.specs.inner.Pages.{after};
 
 use crate::pen::Pen;
 use crate::written::{Written, write_all, write_block, write_separated};

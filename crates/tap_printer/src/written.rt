@@ -2,9 +2,9 @@
 #![tactic(auto, using(crate::proofs::Appends::after_append))]
 
 ghost use Rattle.std.specs.Prelude.{◌≡◌, List, flat_map, map, OnOk};
-ghost use Rattle.tap_base.specs.Canonical.{block, further, separated};
-ghost use Rattle.tap_base.specs.Printed.{Printed};
-ghost use Rattle.tap_printer.specs.Pages.{after};
+ghost use Rattle.tap_printer.specs.Canonical.{block, further, separated};
+ghost use Rattle.tap_printer.specs.Printed.{Printed};
+ghost use Rattle.tap_printer.specs.inner.Pages.{after};
 
 use crate::pen::Pen;
 use tap_base::{NoMemory, Sign};

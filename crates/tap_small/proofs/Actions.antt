@@ -1,17 +1,18 @@
 -- Bodies and actions.
-use Rattle.std.proofs.Common.{◌≡◌, ℕ, ◌+◌, refl, sym, ◌∙◌, ap, List, [], ◌∷◌, drop, arith}
+use Rattle.std.proofs.Common.{◌≡◌, ℕ, ◌+◌, sym, ◌∙◌, ap, List, [], ◌∷◌, drop, arith}
 use Rattle.tap_base.specs.declared.ast.AstAction.{AstAction}
 use Rattle.tap_base.specs.declared.ast.AstGuard.{AstGuard}
 use Rattle.tap_base.specs.declared.ast.AstStmt.{AstStmt}
 use Rattle.tap_base.specs.declared.token.Sign.TheVariants as sign
-use Rattle.tap_base.specs.Lexeme.{Lexeme}
-use Rattle.tap_base.specs.SmallGrammar.{Separated, SomeSeparated, last, more, action, number, name, part, equal, local, received, IsGuard, IsStmt, IsAction, guarded, IsActions}
+use Rattle.tap_lexer.specs.Lexeme.{Lexeme}
+use Rattle.tap_lexer.specs.Rows.{Separated, last, more}
+use Rattle.tap_small.specs.SmallGrammar.{action, number, name, part, equal, local, received, IsGuard, IsStmt, IsAction, guarded, IsActions}
 use Rattle.tap_lexer.specs.declared.found.Found.{Found}
-use Rattle.tap_small.specs.Ends.{EndsBody, EndsActions}
-use Rattle.tap_lexer.specs.Reading.{Stands, Lacks, IsTaken, Free, Closed, Never, Only}
-use Rattle.tap_small.specs.Reading.{IsRead}
+use Rattle.tap_small.specs.inner.Ends.{EndsBody, EndsActions}
+use Rattle.tap_lexer.specs.inner.Reading.{Stands, Lacks, IsTaken, Free, Closed, Never, Only}
+use Rattle.tap_small.specs.inner.Reading.{IsRead}
 use Rattle.tap_lexer.proofs.TokenPlaces.{lacks_not}
-use Rattle.tap_small.proofs.Readings.{One, heads, tails, at_front, behind, only_before}
+use Rattle.tap_small.proofs.Readings.{One, tails, at_front, behind, only_before}
 use Rattle.tap_small.proofs.SeparatedLists.{one_list}
 use Rattle.tap_small.proofs.Closings.{one_closed}
 use Rattle.tap_small.proofs.Guards.{one_guard}

@@ -1,17 +1,18 @@
 -- Atoms, and tests of two atoms.
-use Rattle.std.proofs.Common.{◌≡◌, ℕ, ◌+◌, ◌≤◌, refl, sym, ◌∙◌, ap, List, [], ◌∷◌, drop, length, arith}
+use Rattle.std.proofs.Common.{◌≡◌, ℕ, ◌+◌, refl, sym, ◌∙◌, ap, List, ◌∷◌, drop, arith}
 use Rattle.std.specs.Prelude.{ℤ}
 use Rattle.tap_base.specs.declared.ast.AstExpr.{AstExpr}
 use Rattle.tap_base.specs.declared.ast.AstKind.TheVariants as kind
 use Rattle.tap_base.specs.declared.tree.Op.TheVariants as op
 use Rattle.tap_base.specs.declared.token.Sign.TheVariants as sign
-use Rattle.tap_base.specs.Lexeme.{Lexeme}
-use Rattle.tap_base.specs.SmallGrammar.{node, IsAtom, number, name, part, IsTest, equal}
+use Rattle.tap_lexer.specs.Lexeme.{Lexeme}
+use Rattle.tap_lexer.specs.Leaves.{node}
 use Rattle.tap_lexer.specs.declared.found.Found.{Found}
-use Rattle.tap_lexer.specs.Reading.{Lacks, IsTaken, Never, Only}
-use Rattle.tap_small.specs.Reading.{IsRead}
+use Rattle.tap_lexer.specs.inner.Reading.{Lacks, IsTaken, Never, Only}
 use Rattle.tap_lexer.proofs.TokenPlaces.{lacks_not}
-use Rattle.tap_small.proofs.Signs.{two, three}
+use Rattle.tap_lexer.proofs.InARow.{two, three}
+use Rattle.tap_small.specs.SmallGrammar.{IsAtom, number, name, part, IsTest, equal}
+use Rattle.tap_small.specs.inner.Reading.{IsRead}
 use Rattle.tap_small.proofs.Readings.{One, heads, tails, at_front, behind, valued, only_before, read_one}
 
 pub one_atom : One IsAtom (Lacks sign.Dot)

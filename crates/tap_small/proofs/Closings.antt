@@ -1,11 +1,11 @@
 -- Lists that may be empty, with a token that closes them.
-use Rattle.std.proofs.Common.{◌≡◌, ℕ, ◌+◌, refl, sym, ap, List, [], ◌∷◌, drop, arith}
+use Rattle.std.proofs.Common.{◌≡◌, ℕ, ◌+◌, refl, sym, List, [], ◌∷◌, drop, arith}
 use Rattle.tap_base.specs.declared.token.Sign.{Sign}
-use Rattle.tap_base.specs.Lexeme.{Lexeme}
-use Rattle.tap_base.specs.SmallGrammar.{Separated, SomeSeparated, none, some}
+use Rattle.tap_lexer.specs.Lexeme.{Lexeme}
+use Rattle.tap_lexer.specs.Rows.{Separated, SomeSeparated, none, some}
 use Rattle.tap_lexer.specs.declared.found.Found.{Found}
-use Rattle.tap_lexer.specs.Reading.{Lacks, IsTaken, Free, Closed, closed, Never, Only}
-use Rattle.tap_small.specs.Reading.{IsRead}
+use Rattle.tap_lexer.specs.inner.Reading.{Lacks, IsTaken, Free, Closed, closed, Never, Only}
+use Rattle.tap_small.specs.inner.Reading.{IsRead}
 use Rattle.tap_lexer.proofs.TokenPlaces.{lacks_not}
 use Rattle.tap_small.proofs.Readings.{One, tails, at_front, behind, valued, read_free}
 

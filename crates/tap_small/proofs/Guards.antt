@@ -6,12 +6,14 @@ use Rattle.tap_base.specs.declared.ast.AstGuard.TheVariants as guard
 use Rattle.tap_base.specs.declared.ast.Ident.{Ident}
 use Rattle.tap_base.specs.declared.token.Sign.{Sign}
 use Rattle.tap_base.specs.declared.token.Sign.TheVariants as sign
-use Rattle.tap_base.specs.Lexeme.{Lexeme}
-use Rattle.tap_base.specs.SmallGrammar.{ident, number, name, part, IsTest, equal, IsGuard, local, received}
+use Rattle.tap_lexer.specs.Lexeme.{Lexeme}
+use Rattle.tap_lexer.specs.Leaves.{ident}
 use Rattle.tap_lexer.specs.declared.found.Found.{Found}
-use Rattle.tap_lexer.specs.Reading.{Lacks, IsTaken, Never, Only}
-use Rattle.tap_small.specs.Reading.{IsRead}
-use Rattle.tap_small.proofs.Signs.{Signed, SignAt, unsigned, four}
+use Rattle.tap_lexer.specs.inner.Reading.{Lacks, IsTaken, Never, Only}
+use Rattle.tap_lexer.proofs.InARow.{four}
+use Rattle.tap_small.specs.SmallGrammar.{number, name, part, IsTest, equal, IsGuard, local, received}
+use Rattle.tap_small.specs.inner.Reading.{IsRead}
+use Rattle.tap_small.proofs.Signs.{Signed, SignAt, unsigned}
 use Rattle.tap_small.proofs.Readings.{One, at_front, valued}
 use Rattle.tap_small.proofs.Atoms.{one_test}
 

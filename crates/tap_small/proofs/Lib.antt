@@ -1,8 +1,6 @@
 pub mod Actions
 pub mod Atoms
 pub mod Closings
-pub mod Distinct
-pub mod Every
 pub mod Guards
 pub mod Messages
 pub mod NameWords
@@ -11,12 +9,9 @@ pub mod Outsides
 pub mod Positions
 pub mod Processes
 pub mod Readings
-pub mod Receivers
 pub mod Sends
 pub mod SeparatedLists
-pub mod Shapes
 pub mod Signs
 pub mod Stmts
 pub mod Trees
-pub mod Values
 pub mod Vars

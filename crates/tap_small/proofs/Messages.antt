@@ -1,16 +1,18 @@
 -- Fields and messages.
-use Rattle.std.proofs.Common.{◌≡◌, ℕ, ◌+◌, ◌<◌, refl, sym, ◌∙◌, ap, subst, List, [], ◌∷◌, drop, arith}
+use Rattle.std.proofs.Common.{◌≡◌, ℕ, ◌+◌, refl, sym, ap, List, [], ◌∷◌, drop, arith}
 use Rattle.tap_base.specs.declared.ast.AstField.{AstField}
 use Rattle.tap_base.specs.declared.ast.AstMessage.{AstMessage}
 use Rattle.tap_base.specs.declared.token.Sign.{Sign}
 use Rattle.tap_base.specs.declared.token.Sign.TheVariants as sign
-use Rattle.tap_base.specs.Lexeme.{Lexeme}
-use Rattle.tap_base.specs.SmallGrammar.{Separated, field, message, IsField, IsMessage, declared}
+use Rattle.tap_lexer.specs.Lexeme.{Lexeme}
+use Rattle.tap_lexer.specs.Rows.{Separated}
 use Rattle.tap_lexer.specs.declared.found.Found.{Found}
-use Rattle.tap_lexer.specs.Reading.{Lacks, IsTaken, Free, Closed, closed, Never, Only}
-use Rattle.tap_small.specs.Reading.{IsRead}
+use Rattle.tap_lexer.specs.inner.Reading.{Lacks, IsTaken, Free, Never}
 use Rattle.tap_lexer.proofs.TokenPlaces.{lacks_not}
-use Rattle.tap_small.proofs.Signs.{Signed, SignAt, unsigned, behind_signs, three, four}
+use Rattle.tap_lexer.proofs.InARow.{three, four}
+use Rattle.tap_small.specs.SmallGrammar.{field, message, IsField, IsMessage, declared}
+use Rattle.tap_small.specs.inner.Reading.{IsRead}
+use Rattle.tap_small.proofs.Signs.{Signed, SignAt, unsigned, behind_signs}
 use Rattle.tap_small.proofs.Readings.{One, tails, at_front, behind, valued, read_free}
 use Rattle.tap_small.proofs.SeparatedLists.{one_list}
 

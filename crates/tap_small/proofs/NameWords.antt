@@ -1,10 +1,7 @@
 -- The names in a system that a text names are words.
-use Rattle.std.proofs.Common.{◌≡◌, ◌≢◌, ◌==◌, ◌&&◌, ◌||◌, ℕ, zero, suc, Bool, true, false, List, [], ◌∷◌, ◌++◌, map, length, refl, ap, sym, subst, ◌∙◌, arith, slice_get, slice_range, Option, Some, None, is_some, if◌then◌else◌, codes}
+use Rattle.std.proofs.Common.{◌≡◌, ◌≢◌, ℕ, suc, Bool, true, false, List, [], ◌∷◌, refl, ap, sym, subst, ◌∙◌, slice_range, Some, is_some, if◌then◌else◌}
 use Rattle.std.specs.Char.{is_ascii_alphabetic, is_ascii_digit}
-use Rattle.std.specs.Option.{option_map}
-use Rattle.std.specs.Prelude.{option_and_then}
 use Rattle.std.specs.Str.{bytes_eq}
-use Rattle.std.proofs.lemmas.Bool.Decides.{Decides-eqb}
 use Rattle.std.proofs.lemmas.Slice.Eq.{bytes_eq-Decides}
 use Rattle.tap_base.specs.declared.ast.Ast.{Ast}
 use Rattle.tap_base.specs.declared.ast.AstAction.{AstAction}
@@ -17,21 +14,24 @@ use Rattle.tap_base.specs.declared.ast.AstStmt.{AstStmt}
 use Rattle.tap_base.specs.declared.ast.AstVar.{AstVar}
 use Rattle.tap_base.specs.declared.system.Message.{Message}
 use Rattle.tap_base.specs.declared.system.Process.{Process}
-use Rattle.tap_base.specs.declared.system.System.{System}
 use Rattle.tap_base.specs.declared.token.Sign.{Sign}
 use Rattle.tap_base.specs.declared.token.Token.{Token}
 use Rattle.tap_base.specs.declared.token.TokenKind.{TokenKind}
 use Rattle.tap_base.specs.declared.token.TokenKind.TheVariants.{Name, Number, Word, Symbol}
-use Rattle.tap_base.specs.Bytes.{in_word}
-use Rattle.tap_base.specs.Lexeme.{Lexeme, lexeme, lexemes}
+use Rattle.tap_base.specs.LineWords.{IsWord}
 use Rattle.tap_base.specs.Lists.{Each}
-use Rattle.tap_base.specs.SmallGrammar.{number, name, part, equal, local, received, last, more, none, some, skip, assign, send, guarded, ranged, declared, system, IsAction, IsActions, IsAtom, IsField, IsGuard, IsMessage, IsProcess, IsStmt, IsTest, IsVar, IsVars, Row, Rows, Separated, SomeSeparated, SpellsSmall}
-use Rattle.tap_base.specs.SmallNames.{ast_names, each, message_of, process_of, system_of, action_of, process_scope, var_of}
-use Rattle.tap_base.specs.SmallText.{IsWord, NamesAreWords, SmallText}
-use Rattle.tap_base.specs.Spans.{AreTexts, IsText}
-use Rattle.tap_base.specs.Tokens.{AllPass, IsToken}
-use Rattle.tap_base.specs.Words.{Table, is_in, sign_in, symbols, words}
+use Rattle.tap_base.proofs.OptionFacts.{mapped, bound}
+use Rattle.tap_base.proofs.WordFacts.{is_free, free_word}
+use Rattle.tap_lexer.specs.Bytes.{in_word}
+use Rattle.tap_lexer.specs.Lexeme.{Lexeme, lexemes}
+use Rattle.tap_lexer.specs.Rows.{last, more, none, some, Row, Rows, Separated, SomeSeparated}
+use Rattle.tap_lexer.specs.Spans.{AreTexts}
+use Rattle.tap_lexer.specs.Tokens.{AllPass, IsToken}
+use Rattle.tap_lexer.specs.Words.{Table, is_in, sign_in, symbols, words}
 use Rattle.tap_lexer.proofs.Spans.{spelled_texts}
+use Rattle.tap_small.specs.SmallGrammar.{number, name, part, equal, local, received, none as no_vars, some as some_vars, skip, assign, send, guarded, ranged, declared, system, IsAction, IsAtom, IsField, IsGuard, IsMessage, IsProcess, IsStmt, IsTest, IsVar, IsVars, SpellsSmall}
+use Rattle.tap_small.specs.SmallNames.{ast_names, each, message_of, process_of, var_of}
+use Rattle.tap_small.specs.SmallText.{NamesAreWords}
 
 -- ---- bytes of tokens
 
@@ -41,25 +41,6 @@ differs test b c h k same = let e : true ≡ false = sym h ∙ ap test same ∙ 
 passing : (test : ℕ → Bool) (bs : List ℕ) → test 32 ≡ false → test 10 ≡ false → AllPass test bs → IsWord bs
 passing test [] s l h = tt
 passing test (b ∷ bs) s l h = ((differs test b 32 h.0 s, differs test b 10 h.0 l), passing test bs s l h.1)
-
-is_free : List ℕ → Bool
-is_free [] = true
-is_free (x ∷ xs) = if x == 32 then false else (if x == 10 then false else is_free xs)
-
-free_step : (b d r : Bool) → (if b then false else (if d then false else r)) ≡ true → (b ≡ false) × (d ≡ false) × (r ≡ true)
-free_step true d r h = cc
-free_step false true r h = cc
-free_step false false r h = (refl, refl, h)
-
-unlike : (x y : ℕ) → (x == y) ≡ false → x ≢ y
-unlike x y h same = let e = (Decides-eqb x y).1 same in cc
-
-free_word : (w : List ℕ) → is_free w ≡ true → IsWord w
-unfolding is_free
-free_word [] h = tt
-free_word (x ∷ xs) h =
-    let e = free_step (x == 32) (x == 10) (is_free xs) h in
-    ((unlike x 32 e.0, unlike x 10 e.1), free_word xs e.2)
 
 all_free : Table → Bool
 all_free [] = true
@@ -78,7 +59,7 @@ listed_word ((x, s) ∷ t) w h k = by (bytes_eq w x) refl (free_table (is_free x
   by false e f k rest = rest f.1 k
 
 token_word : (kind : TokenKind) (w : List ℕ) → IsToken kind w → IsWord w
-unfolding all_free is_free
+unfolding all_free
 token_word Name [] h = absurd h
 token_word Name (b ∷ bs) h = ((differs is_ascii_alphabetic b 32 h.0 refl, differs is_ascii_alphabetic b 10 h.0 refl), passing in_word bs refl refl h.1)
 token_word Number [] h = absurd h
@@ -134,8 +115,8 @@ var_rest : (v : AstVar) (ts us : List Lexeme) → IsVar v ts us → Each HasWord
 var_rest a ts us (ranged x y v z w) h = h.1.1.1.1.1
 
 vars_rest : {vs : List AstVar} {ts us : List Lexeme} → IsVars vs ts us → Each HasWord ts → Each HasWord us
-vars_rest none h = h
-vars_rest (some x rest) h = separated_rest var_rest rest h.1
+vars_rest no_vars h = h
+vars_rest (some_vars x rest) h = separated_rest var_rest rest h.1
 
 field_rest : (f : AstField) (ts us : List Lexeme) → IsField f ts us → Each HasWord ts → Each HasWord us
 field_rest f ts us (declared x y v z) h = h.1.1.1.1
@@ -155,42 +136,24 @@ tree_words ts tree (system messages processes) h = row_words _ _ _ processes (ro
 
 -- ---- from the tree to the system
 
-record Mapped {A B : Type 0} (o : Option A) (f : A → B) (y : B) : Type 0 where
-  x : A
-  from : o ≡ Some x
-  is : f x ≡ y
-
-mapped : {A B : Type 0} (o : Option A) (f : A → B) (y : B) → option_map f o ≡ Some y → Mapped o f y
-mapped None f y h = cc
-mapped (Some x) f y h = record { x = x; from = refl; is = cc }
-
-record Given {A B : Type 0} (o : Option A) (f : A → Option B) (y : B) : Type 0 where
-  x : A
-  from : o ≡ Some x
-  then_ : f x ≡ Some y
-
-bound : {A B : Type 0} (f : A → Option B) (o : Option A) (y : B) → option_and_then f o ≡ Some y → Given o f y
-bound f None y h = cc
-bound f (Some x) y h = record { x = x; from = refl; then_ = h }
-
 named : (messages : List Message) (names : List (List ℕ)) (p : AstProcess) (q : Process) → process_of messages names p ≡ Some q → q.name ≡ p.name.text
 named messages names p q h =
     let a = bound _ (each var_of p.vars) q h in
-    let b = mapped _ _ q a.then_ in
-    sym (ap (λ r. r.name) b.is)
+    let b = mapped _ _ q a.2 in
+    sym (ap (λ r. r.name) b.2)
 
 all_named : (messages : List Message) (names : List (List ℕ)) (ps : List AstProcess) (qs : List Process) → each (process_of messages names) ps ≡ Some qs
     → Each (λ p. IsWord p.name.text) ps → Each (λ q. IsWord q.name) qs
 all_named messages names [] qs h k = let e : qs ≡ [] = cc in subst (Each (λ q. IsWord q.name)) (sym e) tt
 all_named messages names (p ∷ ps) qs h k =
     let a = bound _ (process_of messages names p) qs h in
-    let b = mapped _ _ qs a.then_ in
-    subst (Each (λ q. IsWord q.name)) b.is (subst IsWord (sym (named messages names p a.x a.from)) k.0, all_named messages names ps b.x b.from k.1)
+    let b = mapped _ _ qs a.2 in
+    subst (Each (λ q. IsWord q.name)) b.2 (subst IsWord (sym (named messages names p a.0 a.1)) k.0, all_named messages names ps b.0 b.1 k.1)
 
 pub names_are_words : NamesAreWords
 names_are_words text s t =
     let a = bound _ (each message_of t.tree.messages) s t.named in
-    let b = mapped _ _ s a.then_ in
-    subst (λ x. Each (λ p. IsWord p.name) x.processes) b.is
-    (all_named a.x (ast_names t.tree.processes) t.tree.processes b.x b.from
+    let b = mapped _ _ s a.2 in
+    subst (λ x. Each (λ p. IsWord p.name) x.processes) b.2
+    (all_named a.0 (ast_names t.tree.processes) t.tree.processes b.0 b.1
     (tree_words (lexemes text t.tokens) t.tree t.spelled (all_words text t.tokens (spelled_texts text _ t.tokens t.lexed))))

@@ -5,19 +5,16 @@ use Rattle.tap_base.specs.declared.ast.Ast.{Ast}
 use Rattle.tap_base.specs.declared.refusal.Refusal.{Refusal}
 use Rattle.tap_base.specs.declared.system.System.{System}
 use Rattle.tap_base.specs.declared.token.Token.{Token}
-use Rattle.tap_base.specs.Lexeme.{lexemes}
-use Rattle.tap_base.specs.SmallGrammar.{SpellsSmall}
-use Rattle.tap_base.specs.SmallNames.{system_of}
-use Rattle.tap_base.specs.SmallText.{IsOutside, OneSystem}
-use Rattle.tap_base.specs.Tokens.{SpellsTokens, LexesTo}
+use Rattle.tap_lexer.specs.Lexeme.{lexemes}
+use Rattle.tap_lexer.specs.Tokens.{SpellsTokens, LexesTo}
+use Rattle.tap_lexer.proofs.One.{one_text, same_tokens}
+use Rattle.tap_small.specs.SmallGrammar.{SpellsSmall}
+use Rattle.tap_small.specs.SmallNames.{system_of}
+use Rattle.tap_small.specs.SmallText.{IsOutside, OneSystem}
 use Rattle.tap_small.specs.declared.text.SmallFault.{SmallFault}
 use Rattle.tap_small.specs.declared.text.SmallFault.TheVariants as fault
-use Rattle.tap_small.specs.Named.{IsNameless}
-use Rattle.tap_lexer.proofs.One.{one_text}
+use Rattle.tap_small.specs.inner.Named.{IsNameless}
 use Rattle.tap_small.proofs.Trees.{one_tree}
-
-same_tokens : (text : List ℕ) (ts us : List Token) → SpellsTokens text ts → SpellsTokens text us → ts ≡ us
-same_tokens text ts us h k = let e = one_text text (Ok ts) (Ok us) h k in cc
 
 same_trees : (text : List ℕ) (ts us : List Token) (d e : Ast) → SpellsTokens text ts → SpellsSmall (lexemes text ts) d → SpellsTokens text us → SpellsSmall (lexemes text us) e → d ≡ e
 same_trees text ts us d e h i j k =

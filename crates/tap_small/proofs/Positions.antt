@@ -4,7 +4,7 @@ use Rattle.std.specs.Prelude.{bytes_eq, nat_lt}
 use Rattle.std.specs.List.{prefix_len}
 use Rattle.std.proofs.lemmas.List.{length-map}
 use Rattle.tap_base.specs.declared.ast.AstProcess.{AstProcess}
-use Rattle.tap_base.specs.SmallNames.{ast_names, number_named, process_named}
+use Rattle.tap_small.specs.SmallNames.{ast_names, number_named, process_named}
 
 abbrev text_of : AstProcess → List ℕ
 text_of p = p.name.text

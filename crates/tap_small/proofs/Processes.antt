@@ -1,5 +1,5 @@
 -- Processes.
-use Rattle.std.proofs.Common.{◌≡◌, ℕ, ◌+◌, ◌<◌, refl, sym, ◌∙◌, ap, List, [], ◌∷◌, drop, arith}
+use Rattle.std.proofs.Common.{◌≡◌, ℕ, ◌+◌, refl, sym, ◌∙◌, ap, List, [], ◌∷◌, drop, arith}
 use Rattle.tap_base.specs.declared.ast.AstProcess.{AstProcess}
 use Rattle.tap_base.specs.declared.ast.AstConst.{AstConst}
 use Rattle.tap_base.specs.declared.ast.AstVar.{AstVar}
@@ -7,12 +7,14 @@ use Rattle.tap_base.specs.declared.ast.AstAction.{AstAction}
 use Rattle.tap_base.specs.declared.ast.Ident.{Ident}
 use Rattle.tap_base.specs.declared.token.Sign.{Sign}
 use Rattle.tap_base.specs.declared.token.Sign.TheVariants as sign
-use Rattle.tap_base.specs.Lexeme.{Lexeme}
-use Rattle.tap_base.specs.SmallGrammar.{ident, process, IsVars, IsActions, IsProcess, declared}
+use Rattle.tap_lexer.specs.Lexeme.{Lexeme}
+use Rattle.tap_lexer.specs.Leaves.{ident}
 use Rattle.tap_lexer.specs.declared.found.Found.{Found}
-use Rattle.tap_lexer.specs.Reading.{Lacks, IsTaken, Free, Closed, closed, Never}
-use Rattle.tap_small.specs.Reading.{IsRead}
-use Rattle.tap_small.proofs.Signs.{Signed, SignAt, unsigned, behind_signs, two}
+use Rattle.tap_lexer.specs.inner.Reading.{Lacks, IsTaken, Free, Closed, closed, Never}
+use Rattle.tap_lexer.proofs.InARow.{two}
+use Rattle.tap_small.specs.SmallGrammar.{process, IsVars, IsActions, IsProcess, declared}
+use Rattle.tap_small.specs.inner.Reading.{IsRead}
+use Rattle.tap_small.proofs.Signs.{Signed, SignAt, unsigned, behind_signs}
 use Rattle.tap_small.proofs.Readings.{One, at_front, valued, read_free}
 use Rattle.tap_small.proofs.Vars.{one_closed_vars}
 use Rattle.tap_small.proofs.Actions.{one_actions}

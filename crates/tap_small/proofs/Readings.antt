@@ -1,12 +1,12 @@
 -- What is read of any form.
-use Rattle.std.proofs.Common.{◌≡◌, ℕ, sym, ◌∙◌, ap, subst, List, ◌∷◌, drop, length, Result, Ok, Err, ◌≤◌}
+use Rattle.std.proofs.Common.{◌≡◌, ℕ, sym, ◌∙◌, subst, List, ◌∷◌, drop, length, Result, Ok, Err, ◌≤◌}
 use Rattle.std.specs.Prelude.{IsErrAnd}
-use Rattle.tap_base.specs.Lexeme.{Lexeme}
+use Rattle.tap_lexer.specs.Lexeme.{Lexeme}
 use Rattle.tap_lexer.specs.declared.found.Found.{Found}
 use Rattle.tap_small.specs.declared.stop.Stop.{Stop}
 use Rattle.tap_small.specs.declared.stop.Stop.TheVariants as stop
-use Rattle.tap_lexer.specs.Reading.{Never, Only, Free}
-use Rattle.tap_small.specs.Reading.{IsRead, Answers}
+use Rattle.tap_lexer.specs.inner.Reading.{Never, Only, Free}
+use Rattle.tap_small.specs.inner.Reading.{IsRead, Answers}
 
 -- two readings that stop are one
 abbrev pub One : {A : Type 0} → (A → List Lexeme → List Lexeme → Type 0) → (List Lexeme → Type 0) → Type 0

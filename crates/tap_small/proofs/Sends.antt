@@ -2,10 +2,11 @@
 use Rattle.std.proofs.Common.{◌≡◌, List, ◌∷◌}
 use Rattle.tap_base.specs.declared.ast.AstExpr.{AstExpr}
 use Rattle.tap_base.specs.declared.token.Sign.TheVariants as sign
-use Rattle.tap_base.specs.Lexeme.{Lexeme}
-use Rattle.tap_base.specs.SmallGrammar.{Separated, SomeSeparated, last, more, IsAtom, number, name, part}
-use Rattle.tap_small.specs.Ends.{EndsValues}
-use Rattle.tap_lexer.specs.Reading.{Lacks, Free, Closed}
+use Rattle.tap_lexer.specs.Lexeme.{Lexeme}
+use Rattle.tap_lexer.specs.Rows.{Separated, SomeSeparated, last, more}
+use Rattle.tap_small.specs.SmallGrammar.{IsAtom, number, name, part}
+use Rattle.tap_small.specs.inner.Ends.{EndsValues}
+use Rattle.tap_lexer.specs.inner.Reading.{Lacks, Free, Closed}
 use Rattle.tap_small.proofs.Readings.{One}
 use Rattle.tap_small.proofs.SeparatedLists.{one_list}
 use Rattle.tap_small.proofs.Closings.{one_closed}

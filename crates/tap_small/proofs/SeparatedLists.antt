@@ -1,11 +1,11 @@
 -- Lists with a separator.
-use Rattle.std.proofs.Common.{◌≡◌, ℕ, ◌+◌, ◌≤◌, ◌⊎◌, inl, inr, refl, sym, ◌∙◌, ap, subst, List, [], ◌∷◌, ◌++◌, drop, length, arith, append_assoc}
+use Rattle.std.proofs.Common.{◌≡◌, ℕ, ◌+◌, ◌≤◌, ◌⊎◌, inl, inr, sym, ◌∙◌, ap, subst, List, [], ◌∷◌, ◌++◌, drop, length, arith, append_assoc}
 use Rattle.tap_base.specs.declared.token.Sign.{Sign}
-use Rattle.tap_base.specs.Lexeme.{Lexeme}
-use Rattle.tap_base.specs.SmallGrammar.{Separated, last, more}
+use Rattle.tap_lexer.specs.Lexeme.{Lexeme}
+use Rattle.tap_lexer.specs.Rows.{Separated, last, more}
 use Rattle.tap_lexer.specs.declared.found.Found.{Found}
-use Rattle.tap_lexer.specs.Reading.{Lacks, IsTaken, Never}
-use Rattle.tap_small.specs.Reading.{IsRead}
+use Rattle.tap_lexer.specs.inner.Reading.{Lacks, IsTaken, Never}
+use Rattle.tap_small.specs.inner.Reading.{IsRead}
 use Rattle.tap_lexer.proofs.TokenPlaces.{lacks_not}
 use Rattle.tap_small.proofs.Readings.{One, tails, at_front, behind}
 

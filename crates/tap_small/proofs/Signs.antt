@@ -2,8 +2,8 @@
 use Rattle.std.proofs.Common.{◌≡◌, ℕ, zero, suc, ◌+◌, sym, ◌∙◌, ap, subst, List, [], ◌∷◌, drop, length, arith}
 use Rattle.std.proofs.lemmas.List.{drop-drop}
 use Rattle.tap_base.specs.declared.token.Sign.{Sign}
-use Rattle.tap_base.specs.Lexeme.{Lexeme}
-use Rattle.tap_lexer.specs.Reading.{Lacks, Stands}
+use Rattle.tap_lexer.specs.Lexeme.{Lexeme}
+use Rattle.tap_lexer.specs.inner.Reading.{Lacks}
 
 -- tokens with these signs stand in front of the others
 abbrev pub Signed : List Sign → List Lexeme → List Lexeme → Type 0
@@ -38,18 +38,3 @@ rest (a ∷ ss) (x ∷ ts) us r = rest ss ts us r.1
 -- what stands behind tokens with signs
 pub behind_signs : (xs : List Lexeme) (at k : ℕ) (ss : List Sign) (us : List Lexeme) → length ss ≡ k → Signed ss (drop at xs) us → us ≡ drop (at + k) xs
 behind_signs xs at k ss us e r = rest ss (drop at xs) us r ∙ drop_both (length ss) at xs ∙ ap (λ n. drop (at + n) xs) e
-
--- ---- tokens at places
-
-module _ (xs : List Lexeme) (at : ℕ) where
-  pub two : (x y : Lexeme) → Stands xs at x → Stands xs (at + 1) y → drop at xs ≡ x ∷ y ∷ drop (at + 2) xs
-  two x y p q = let n : (at + 1) + 1 ≡ at + 2 = omega arith in p.cut ∙ ap (λ k. x ∷ k) q.cut ∙ ap (λ k. x ∷ y ∷ drop k xs) n
-
-  pub three : (x y v : Lexeme) → Stands xs at x → Stands xs (at + 1) y → Stands xs (at + 2) v → drop at xs ≡ x ∷ y ∷ v ∷ drop (at + 3) xs
-  three x y v p q r = let n : (at + 2) + 1 ≡ at + 3 = omega arith in two x y p q ∙ ap (λ k. x ∷ y ∷ k) r.cut ∙ ap (λ k. x ∷ y ∷ v ∷ drop k xs) n
-
-  pub four : (x y v z : Lexeme) → Stands xs at x → Stands xs (at + 1) y → Stands xs (at + 2) v → Stands xs (at + 3) z → drop at xs ≡ x ∷ y ∷ v ∷ z ∷ drop (at + 4) xs
-  four x y v z p q r s = let n : (at + 3) + 1 ≡ at + 4 = omega arith in three x y v p q r ∙ ap (λ k. x ∷ y ∷ v ∷ k) s.cut ∙ ap (λ k. x ∷ y ∷ v ∷ z ∷ drop k xs) n
-
-  pub five : (x y v z w : Lexeme) → Stands xs at x → Stands xs (at + 1) y → Stands xs (at + 2) v → Stands xs (at + 3) z → Stands xs (at + 4) w → drop at xs ≡ x ∷ y ∷ v ∷ z ∷ w ∷ drop (at + 5) xs
-  five x y v z w p q r s t = let n : (at + 4) + 1 ≡ at + 5 = omega arith in four x y v z p q r s ∙ ap (λ k. x ∷ y ∷ v ∷ z ∷ k) t.cut ∙ ap (λ k. x ∷ y ∷ v ∷ z ∷ w ∷ drop k xs) n

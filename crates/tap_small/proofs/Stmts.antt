@@ -6,13 +6,16 @@ use Rattle.tap_base.specs.declared.ast.AstStmt.TheVariants as stmt
 use Rattle.tap_base.specs.declared.ast.Ident.{Ident}
 use Rattle.tap_base.specs.declared.token.Sign.{Sign}
 use Rattle.tap_base.specs.declared.token.Sign.TheVariants as sign
-use Rattle.tap_base.specs.Lexeme.{Lexeme}
-use Rattle.tap_base.specs.SmallGrammar.{Separated, SomeSeparated, ident, whole, IsAtom, IsStmt, skip, assign, send}
+use Rattle.tap_lexer.specs.Lexeme.{Lexeme}
+use Rattle.tap_lexer.specs.Leaves.{ident}
+use Rattle.tap_lexer.specs.Rows.{SomeSeparated}
 use Rattle.tap_lexer.specs.declared.found.Found.{Found}
-use Rattle.tap_lexer.specs.Reading.{Lacks, IsTaken, Shows, Free, Closed, closed, Never, Only}
-use Rattle.tap_small.specs.Reading.{IsRead}
+use Rattle.tap_lexer.specs.inner.Reading.{Lacks, IsTaken, Shows, Free, Closed, closed, Never, Only}
 use Rattle.tap_lexer.proofs.TokenPlaces.{lacks_not, lacks_one}
-use Rattle.tap_small.proofs.Signs.{Signed, SignAt, unsigned, behind_signs, two, three}
+use Rattle.tap_lexer.proofs.InARow.{two, three}
+use Rattle.tap_small.specs.SmallGrammar.{whole, IsAtom, IsStmt, skip, assign, send}
+use Rattle.tap_small.specs.inner.Reading.{IsRead}
+use Rattle.tap_small.proofs.Signs.{Signed, SignAt, unsigned, behind_signs}
 use Rattle.tap_small.proofs.Readings.{One, heads, tails, at_front, behind, valued}
 use Rattle.tap_small.proofs.Atoms.{one_atom}
 use Rattle.tap_small.proofs.Sends.{one_values}

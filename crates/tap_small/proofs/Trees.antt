@@ -1,21 +1,22 @@
 -- Messages, processes and trees.
-use Rattle.std.proofs.Common.{◌≡◌, ℕ, ◌+◌, ◌<◌, ◌≤◌, ◌⊎◌, inl, inr, refl, sym, ◌∙◌, ap, subst, List, [], ◌∷◌, ◌++◌, drop, length, Result, Ok, Err, arith, append_assoc}
+use Rattle.std.proofs.Common.{◌≡◌, ℕ, ◌<◌, ◌≤◌, refl, sym, ◌∙◌, ap, subst, List, [], ◌∷◌, ◌++◌, drop, length, Result, Ok, Err, arith}
 use Rattle.std.specs.Prelude.{IsErrAnd}
 use Rattle.std.proofs.lemmas.List.{drop_all, length-drop, append-nil}
 use Rattle.tap_base.specs.declared.ast.Ast.{Ast}
 use Rattle.tap_base.specs.declared.ast.AstMessage.{AstMessage}
 use Rattle.tap_base.specs.declared.ast.AstProcess.{AstProcess}
 use Rattle.tap_base.specs.declared.token.Sign.TheVariants as sign
-use Rattle.tap_base.specs.Lexeme.{Lexeme}
-use Rattle.tap_base.specs.SmallGrammar.{Row, Rows, last, more, none, IsMessage, IsProcess, declared, SpellsSmall, system}
+use Rattle.tap_lexer.specs.Lexeme.{Lexeme}
+use Rattle.tap_lexer.specs.Rows.{Row, Rows, last, more, none}
+use Rattle.tap_small.specs.SmallGrammar.{IsMessage, IsProcess, declared, SpellsSmall, system}
 use Rattle.tap_lexer.specs.declared.found.Found.{Found}
-use Rattle.tap_lexer.specs.Reading.{Lacks, IsTaken, Free, Never}
-use Rattle.tap_small.specs.Reading.{IsRead}
+use Rattle.tap_lexer.specs.inner.Reading.{Lacks, IsTaken, Free, Never}
+use Rattle.tap_small.specs.inner.Reading.{IsRead}
 use Rattle.tap_small.specs.declared.stop.Stop.{Stop}
 use Rattle.tap_small.specs.declared.stop.Stop.TheVariants as stop
-use Rattle.tap_small.specs.Reading.{Answers}
-use Rattle.tap_small.specs.Trees.{RowAnswers, TreeAnswers}
-use Rattle.tap_lexer.proofs.TokenPlaces.{lacks_not, empty_not}
+use Rattle.tap_small.specs.inner.Reading.{Answers}
+use Rattle.tap_small.specs.inner.Trees.{RowAnswers, TreeAnswers}
+use Rattle.tap_lexer.proofs.TokenPlaces.{lacks_not}
 use Rattle.tap_small.proofs.Readings.{at_front, behind}
 use Rattle.tap_small.proofs.Messages.{one_message}
 use Rattle.tap_small.proofs.Processes.{one_process}

@@ -1,15 +1,17 @@
 -- Variables.
-use Rattle.std.proofs.Common.{◌≡◌, ℕ, ◌+◌, refl, sym, ◌∙◌, ap, List, [], ◌∷◌, drop, arith}
+use Rattle.std.proofs.Common.{◌≡◌, ℕ, ◌+◌, refl, sym, List, [], ◌∷◌, drop, arith}
 use Rattle.tap_base.specs.declared.ast.AstVar.{AstVar}
 use Rattle.tap_base.specs.declared.token.Sign.{Sign}
 use Rattle.tap_base.specs.declared.token.Sign.TheVariants as sign
-use Rattle.tap_base.specs.Lexeme.{Lexeme}
-use Rattle.tap_base.specs.SmallGrammar.{Separated, variable, IsVar, ranged, IsVars, none, some}
+use Rattle.tap_lexer.specs.Lexeme.{Lexeme}
+use Rattle.tap_lexer.specs.Rows.{Separated}
 use Rattle.tap_lexer.specs.declared.found.Found.{Found}
-use Rattle.tap_lexer.specs.Reading.{Stands, Lacks, IsTaken, Free, Closed, closed, Never, Only}
-use Rattle.tap_small.specs.Reading.{IsRead}
+use Rattle.tap_lexer.specs.inner.Reading.{Lacks, IsTaken, Free, Closed, closed, Never, Only}
 use Rattle.tap_lexer.proofs.TokenPlaces.{lacks_not}
-use Rattle.tap_small.proofs.Signs.{Signed, SignAt, unsigned, five}
+use Rattle.tap_lexer.proofs.InARow.{five}
+use Rattle.tap_small.specs.SmallGrammar.{variable, IsVar, ranged, IsVars, none, some}
+use Rattle.tap_small.specs.inner.Reading.{IsRead}
+use Rattle.tap_small.proofs.Signs.{Signed, SignAt, unsigned}
 use Rattle.tap_small.proofs.Readings.{One, tails, at_front, behind, valued, read_free}
 use Rattle.tap_small.proofs.SeparatedLists.{one_list}
 

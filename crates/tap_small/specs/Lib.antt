@@ -1,8 +1,5 @@
-pub mod Apart
-pub mod Ends
 pub mod Few
-pub mod Fitting
-pub mod Named
-pub mod Reading
-pub mod Scopes
-pub mod Trees
+pub mod SmallGrammar
+pub mod SmallNames
+pub mod SmallText
+pub mod inner

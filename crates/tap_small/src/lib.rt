@@ -1,14 +1,10 @@
 //! The small language: from a text to the system that it names.
 #![tactic(auto)]
 
-mod limits;
 mod names;
 mod small;
 mod stop;
-#[cfg(test)]
-mod tests;
 mod text;
 
-pub use limits::is_small;
 pub use names::{counts_are_few, system_named};
 pub use text::{SmallFault, names_are_words, one_system, read_small};

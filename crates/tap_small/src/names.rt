@@ -11,7 +11,7 @@ mod stmts;
 mod vars;
 
 ghost use Rattle.std.specs.Prelude.{◌≡◌, IfOk};
-ghost use Rattle.tap_base.specs.SmallNames.{system_of};
+ghost use Rattle.tap_small.specs.SmallNames.{system_of};
 ghost use Rattle.tap_small.specs.Few.{CountsAreFew};
 
 pub use crate::names::few::counts_are_few;

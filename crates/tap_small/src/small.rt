@@ -9,9 +9,9 @@ mod sends;
 mod stmts;
 mod vars;
 
-ghost use Rattle.tap_base.specs.Lexeme.{lexemes};
-ghost use Rattle.tap_base.specs.Spans.{AreTexts};
-ghost use Rattle.tap_small.specs.Trees.{TreeAnswers};
+ghost use Rattle.tap_lexer.specs.Lexeme.{lexemes};
+ghost use Rattle.tap_lexer.specs.Spans.{AreTexts};
+ghost use Rattle.tap_small.specs.inner.Trees.{TreeAnswers};
 
 use crate::small::messages::read_messages;
 use crate::small::processes::read_processes;

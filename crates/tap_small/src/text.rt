@@ -1,14 +1,14 @@
 //! From a text of the small language to the system that it names.
 
 ghost use Rattle.std.specs.Prelude.{◌≡◌, ◌≤◌, length, IfOk, IfErr};
-ghost use Rattle.tap_base.specs.SmallText.{IsOutside, NamesAreWords, OneSystem, SmallText};
-ghost use Rattle.tap_base.specs.Tokens.{SpellsTokens};
-ghost use Rattle.tap_small.specs.Named.{IsNamed, IsNameless};
+ghost use Rattle.tap_small.specs.SmallText.{IsOutside, NamesAreWords, OneSystem, SmallText};
+ghost use Rattle.tap_lexer.specs.Tokens.{SpellsTokens};
+ghost use Rattle.tap_small.specs.inner.Named.{IsNamed, IsNameless};
 
-use crate::limits::is_small;
 use crate::names::{counts_are_few, system_named};
 use crate::small::read_tree;
 use crate::stop::Stop;
+use small_limits::is_small;
 use std::alloc::Global;
 use tap_base::{Ast, NoMemory, System, Token};
 use tap_lexer::{LexFault, Source, lex};

@@ -1,18 +1,18 @@
 -- The files that a command read are there.
-use Rattle.std.proofs.Common.{◌≡◌, inl, inr, ℕ, List, Option, Some, None, Err, refl, sym, subst}
-use Rattle.tapc_core.specs.Closing.{Closes, failed, put}
-use Rattle.tapc_core.specs.FileFaults.{WasRead}
-use Rattle.tapc_core.specs.Output.{AreFound, Contents, GivesUp, IsPlayed}
+use Rattle.std.proofs.Common.{◌≡◌, inl, inr, ℕ, List, [], Option, Some, None, Err, refl, sym, subst}
+use Rattle.tapc_core.specs.Command.{AreFound, Contents}
 use Rattle.tapc_core.specs.Outside.{IsTold}
-use Rattle.tapc_core.specs.Reading.{ReadsText, ReadsWhole}
-use Rattle.tapc_core.specs.Words.{Asked, check, print, world}
+use Rattle.tapc_core.specs.Reading.{ReadsText}
+use Rattle.tapc_core.specs.commands.World.{IsPlayed, reads_both}
 use Rattle.tapc_core.specs.declared.files.FileFault.{FileFault}
 use Rattle.tapc_core.specs.declared.files.FileFault.TheVariants as file
-use Rattle.tapc_core.specs.declared.offence.Offence.{Offence}
+use Rattle.tap_front.specs.declared.offence.Offence.{Offence}
 use Rattle.tapc_core.specs.declared.reading.Reading.{Reading}
 use Rattle.tapc_core.specs.declared.reading.Reading.TheVariants.{Whole, TooLong}
 use Rattle.tapc_core.specs.declared.status.Status.{Status}
 use Rattle.tapc_core.specs.declared.status.Status.TheVariants.{Done, Refused, Usage, BadSchedule, ReadFault, WriteFault, LinkFault, NoMemory, NotARun, WorldFull}
+use Rattle.tapc_core.specs.inner.Closing.{Closes, failed, put}
+use Rattle.tapc_core.specs.inner.FileFaults.{GivesUp, WasRead}
 
 -- ---- what is left
 
@@ -24,41 +24,32 @@ text_told (Some contents) TooLong left h t = subst IsTold (sym h.1) tt
 
 -- ---- statuses
 
-write_found : (asked : Option Asked) (contents : Contents) → AreFound asked contents WriteFault
-write_found None contents = tt
-write_found (Some (check system)) contents = tt
-write_found (Some (print system)) contents = tt
-write_found (Some (world system schedule)) contents = tt
+-- A fault is no status with which a file counts as read.
+pub record AreSpared (reads : Status → List (List ℕ)) : Type 0 where
+  pub unwritten : reads WriteFault ≡ []
+  pub unread : reads ReadFault ≡ []
+  pub no_memory : reads NoMemory ≡ []
 
-read_found : (asked : Option Asked) (contents : Contents) → AreFound asked contents ReadFault
-read_found None contents = tt
-read_found (Some (check system)) contents = tt
-read_found (Some (print system)) contents = tt
-read_found (Some (world system schedule)) contents = tt
-
-memory_found : (asked : Option Asked) (contents : Contents) → AreFound asked contents NoMemory
-memory_found None contents = tt
-memory_found (Some (check system)) contents = tt
-memory_found (Some (print system)) contents = tt
-memory_found (Some (world system schedule)) contents = tt
+none_found : (names : List (List ℕ)) (contents : Contents) → names ≡ [] → AreFound names contents
+none_found names contents e = subst (λ n. AreFound n contents) (sym e) tt
 
 -- a command that closed with a status
-pub closed_found : (asked : Option Asked) (contents : Contents) (status : Status) (bytes : List ℕ) (before now : Option (List ℕ)) (r : Status)
-    → AreFound asked contents status → Closes status bytes before now r → AreFound asked contents r
-closed_found asked contents status bytes before now r found (put a) = found
-closed_found asked contents status bytes before now r found (failed front rest e a) = write_found asked contents
+pub closed_found : (reads : Status → List (List ℕ)) (contents : Contents) (status : Status) (bytes : List ℕ) (before now : Option (List ℕ)) (r : Status)
+    → AreSpared reads → AreFound (reads status) contents → Closes status bytes before now r → AreFound (reads r) contents
+closed_found reads contents status bytes before now r spared found (put a) = found
+closed_found reads contents status bytes before now r spared found (failed front rest e a) = none_found (reads WriteFault) contents spared.unwritten
 
 -- a command that had nothing to work on
-pub given_up_found : (asked : Option Asked) (contents : Contents) (fault : FileFault) (before now : Option (List ℕ)) (r : Status)
-    → ((o : Offence) → fault ≡ file.Refused o → AreFound asked contents Refused) → GivesUp fault before now r → AreFound asked contents r
-given_up_found asked contents (file.Refused o) before now r found (inl c) = closed_found asked contents Refused _ before now r (found o refl) c
-given_up_found asked contents (file.Refused o) before now r found (inr c) = closed_found asked contents NoMemory _ before now r (memory_found asked contents) c
-given_up_found asked contents file.ReadFault before now r found c = closed_found asked contents ReadFault _ before now r (read_found asked contents) c
-given_up_found asked contents file.NoMemory before now r found c = closed_found asked contents NoMemory _ before now r (memory_found asked contents) c
+pub given_up_found : (reads : Status → List (List ℕ)) (contents : Contents) (fault : FileFault) (before now : Option (List ℕ)) (r : Status)
+    → AreSpared reads → ((o : Offence) → fault ≡ file.Refused o → AreFound (reads Refused) contents) → GivesUp fault before now r → AreFound (reads r) contents
+given_up_found reads contents (file.Refused o) before now r spared found (inl c) = closed_found reads contents Refused _ before now r spared (found o refl) c
+given_up_found reads contents (file.Refused o) before now r spared found (inr c) = closed_found reads contents NoMemory _ before now r spared (none_found (reads NoMemory) contents spared.no_memory) c
+given_up_found reads contents file.ReadFault before now r spared found c = closed_found reads contents ReadFault _ before now r spared (none_found (reads ReadFault) contents spared.unread) c
+given_up_found reads contents file.NoMemory before now r spared found c = closed_found reads contents NoMemory _ before now r spared (none_found (reads NoMemory) contents spared.no_memory) c
 
 -- a schedule that was played
 pub played_found : (system schedule : List ℕ) (contents : Contents) (r : Status) → IsTold (contents system) → IsTold (contents schedule) → IsPlayed r
-    → AreFound (Some (world system schedule)) contents r
+    → AreFound (reads_both system schedule r) contents
 played_found system schedule contents Done a b h = (a, (b, tt))
 played_found system schedule contents BadSchedule a b h = (a, (b, tt))
 played_found system schedule contents WriteFault a b h = tt

@@ -2,7 +2,8 @@
 use Rattle.std.proofs.Common.{◌≡◌, ◌≤◌, ◌<◌, ◌+◌, ℕ, List, ◌++◌, length, take, Option, Some, None, IfSome, ap, ◌∙◌, arith}
 use Rattle.std.proofs.lemmas.List.{length-take, take_all}
 use Rattle.std.proofs.Math.ListN.{drop_of_length-le}
-use Rattle.tapc_core.specs.Reading.{ReadsFront, ReadsWhole, ReadsText, longest_text}
+use Rattle.tap_front.specs.Accepting.{longest_text}
+use Rattle.tapc_core.specs.Reading.{ReadsFront, ReadsWhole, ReadsText}
 use Rattle.tapc_core.specs.declared.reading.Reading.TheVariants.{TooLong}
 
 -- where the contents are told, they are the bytes that were read and what is left

@@ -1,27 +1,36 @@
 -- From what was served to what is written.
 use Rattle.std.proofs.Common.{◌≡◌, ◌+◌, ◌<◌, ◌≤◌, ◌⊎◌, inl, inr, ℕ, List, [], ◌∷◌, ◌++◌, length, Option, Some, None, IfSome, refl, ap, sym, subst, ◌∙◌, append_assoc, append-nil, arith}
+use Rattle.std.specs.Option.{option_map}
 use Rattle.std.specs.Io.KnownBytes.{Appends}
-use Rattle.tap_base.specs.Small.{IsSmall}
 use Rattle.tap_base.specs.declared.system.System.{System}
-use Rattle.abstract_run.specs.declared.label.Event.{Event}
-use Rattle.abstract_run.specs.declared.state.State.{State}
-use Rattle.tapc_core.specs.Closing.{Closes, ClosesOr, failed, put}
-use Rattle.tapc_core.specs.Offences.{refused_line}
-use Rattle.tapc_core.specs.Output.{GivesUp, IsBadTrace, IsFrontOfTrace, IsPlayed, IsTrace, IsUnfinished, IsWritten, OfWorld, Writes, bad_line, no_memory_line, read_fault_line}
-use Rattle.tapc_core.specs.Run.{AreOf, Files, Played, opening}
-use Rattle.run_text.specs.ScheduleText.{BeginsBadly, BeginsSchedule, GoesOnAfter, SpellsSchedule, events_text, most_events}
-use Rattle.tapc_core.specs.Serving.{Broken, Passed, Progress}
-use Rattle.run_text.specs.TraceText.{end_line, label_lines, process_names, trace_text, var_lines}
 use Rattle.abstract_run.specs.Answers.{Answers}
-use Rattle.abstract_run.specs.Meaning.{Meaning, meaning_of}
-use Rattle.abstract_run.specs.Run.{state_after}
+use Rattle.abstract_run.specs.Fits.{Fits}
+use Rattle.abstract_run.specs.Runnable.{IsRunnable}
+use Rattle.abstract_run.specs.Semantics.{Semantics, semantics_of}
+use Rattle.abstract_run.specs.declared.label.Event.{Event}
 use Rattle.abstract_run.specs.declared.label.Label.{Label}
+use Rattle.abstract_run.specs.declared.state.State.{State}
+use Rattle.run_text.specs.ScheduleText.{BeginsBadly, BeginsSchedule, GoesOnAfter, SpellsSchedule, events_text, most_events}
+use Rattle.run_text.specs.TraceText.{last_lines, lines_text, names_in, run_lines}
+use Rattle.run_text.proofs.FewLines.{few_lines}
+use Rattle.run_text.proofs.RunLines.{whole_trace}
+use Rattle.tap_front.specs.Lines.{refused_line}
+use Rattle.tap_front.specs.declared.offence.Offence.{Offence}
+use Rattle.tapc_core.specs.Lines.{bad_line, no_memory_line, read_fault_line}
+use Rattle.tapc_core.specs.Run.{Files, Played}
+use Rattle.tapc_core.specs.Written.{IsWritten, Writes}
+use Rattle.tapc_core.specs.commands.World.{IsBadTrace, IsFrontOfTrace, IsPlayed, IsTrace, IsUnfinished, OfWorld}
 use Rattle.tapc_core.specs.declared.files.FileFault.{FileFault}
 use Rattle.tapc_core.specs.declared.files.FileFault.TheVariants as file
-use Rattle.tapc_core.specs.declared.offence.Offence.{Offence}
 use Rattle.tapc_core.specs.declared.status.Status.{Status}
 use Rattle.tapc_core.specs.declared.status.Status.TheVariants.{Done, Refused, Usage, BadSchedule, ReadFault, WriteFault, LinkFault, NoMemory, NotARun, WorldFull}
+use Rattle.tapc_core.specs.inner.Closing.{Closes, ClosesOr, failed, put}
+use Rattle.tapc_core.specs.inner.FileFaults.{GivesUp}
+use Rattle.tapc_core.specs.inner.Playing.{AreOf, Broken, Passed, Progress}
+use Rattle.tapc_core.proofs.GivenTexts.{if_some}
 use Rattle.tapc_core.proofs.Steps.{answered, appends_more, appends_none}
+use Rattle.world_run.specs.Opening.{opening}
+use Rattle.world_run.proofs.Lines.{lines_append}
 
 -- ---- closing
 
@@ -67,10 +76,6 @@ module _ (Kind : Status → List ℕ → Type 0) where
 
 -- ---- schedules
 
-if_some : {A : Type 0} (o : Option A) (P Q : A → Type 0) → ((x : A) → P x → Q x) → IfSome o P → IfSome o Q
-if_some None P Q f h = tt
-if_some (Some x) P Q f h = f x h
-
 of_schedule : (o : Option (List ℕ)) (schedule : List ℕ) (K : List ℕ → Type 0) → K schedule → IfSome o (λ t. schedule ≡ t) → IfSome o K
 of_schedule o schedule K h same = if_some o (λ t. schedule ≡ t) K (λ t e. subst K e h) same
 
@@ -91,33 +96,34 @@ begins names schedule rest events (inr h) = ([], h.1 ∙ sym (append-nil (events
 -- ---- outputs
 
 abbrev played : {system : System} {schedule rest : List ℕ} {number : ℕ} {s : State} {before now : Option (List ℕ)} {page : List ℕ} {files : Files}
-    → IsSmall system → AreOf system schedule files → Progress system schedule rest number s before now page → Played files
-played {system = system} {s = s} small of p =
-    record { system = system; small = small; accepted = of.accepted; events = p.events; labels = p.labels; last = s; run = p.run }
+    → AreOf system schedule files → Progress (semantics_of system) schedule rest number s before now page → Played files
+played {system = system} {s = s} {files = files} of p =
+    record { semantics = semantics_of system; gives = of.gives; events = p.events; labels = p.labels; last = s; run = p.run }
 
 -- nothing is falling at the end of a run
-settled_end : (m : Meaning) (s t : State) (es : List Event) (labels : List Label) → s.falling ≡ None → Answers m s es labels t → t.falling ≡ None
+settled_end : (m : Semantics) (s t : State) (es : List Event) (labels : List Label) → s.falling ≡ None → Answers m s es labels t → t.falling ≡ None
 settled_end m s t [] labels settled h = ap (λ x. x.falling) h.1 ∙ settled
 settled_end m s t (e ∷ es) labels settled h = settled_end m h.2 t es h.1 h.4.settled h.5
 
--- the lines of a run, its last values and the end are its text
-whole_text : (system : System) (s t : State) (labels : List Label) (lines : List ℕ) → label_lines system s labels ≡ Some lines → state_after (meaning_of system) s labels ≡ Some t → t.falling ≡ None
-    → trace_text system s labels ≡ Some (lines ++ (var_lines system.processes t.stores ++ end_line))
-whole_text system s t labels lines shown ran settled = rw (shown, ran, settled) (ap Some (append_assoc lines (var_lines system.processes t.stores) end_line))
-
 pub trace_output : {system : System} {schedule : List ℕ} {number : ℕ} {s : State} {before now : Option (List ℕ)} {page : List ℕ} {files : Files}
-    → IsSmall system → AreOf system schedule files → (p : Progress system schedule [] number s before now page)
-    → IsTrace files (p.put ++ (page ++ (var_lines system.processes s.stores ++ end_line)))
-trace_output {system = system} {schedule = schedule} {s = s} {page = page} {files = files} small of p =
-    let m = meaning_of system in
+    → IsRunnable system → Fits (semantics_of system) (opening (semantics_of system)) → AreOf system schedule files → (p : Progress (semantics_of system) schedule [] number s before now page)
+    → IsTrace files (p.put ++ (page ++ lines_text (last_lines (semantics_of system) s)))
+trace_output {system = system} {schedule = schedule} {s = s} {page = page} {files = files} runnable fits of p =
+    let m = semantics_of system in
     let answers = p.run.answers in
+    let last = last_lines m s in
+    let whole = whole_trace m (opening m) s p.labels p.lines p.shown (answered m (opening m) s p.events p.labels answers) (settled_end m (opening m) s p.events p.labels refl answers) in
     record {
-      run = played small of p;
-      schedule = of_schedule files.schedule schedule (λ t. SpellsSchedule (process_names system) t p.events)
-          (p.listed, spells_all (process_names system) schedule p.events p.passed) of.schedule_is;
-      is =
-          whole_text system (opening system) s p.labels (p.put ++ page) p.shown (answered m (opening system) s p.events p.labels answers) (settled_end m (opening system) s p.events p.labels refl answers)
-          ∙ ap Some (append_assoc p.put page (var_lines system.processes s.stores ++ end_line));
+      run = played of p;
+      schedule = of_schedule files.schedule schedule (λ t. SpellsSchedule (names_in m) t p.events)
+          (p.listed, spells_all (names_in m) schedule p.events p.passed) of.schedule_is;
+      is = record {
+        lines = p.lines ++ last;
+        told = whole;
+        sized = p.sized;
+        few = few_lines m (opening m) s p.events p.labels (p.lines ++ last) runnable.safe.begins runnable.safe.keeps fits p.listed.few answers whole;
+        text = sym (append_assoc p.put page (lines_text last)) ∙ ap (λ z. z ++ lines_text last) (sym p.is) ∙ sym (lines_append p.lines last);
+      };
     }
 
 -- a number above the limit is behind as many events as a schedule may have
@@ -126,40 +132,48 @@ bad_after : {names : List (List ℕ)} (events : List Event) (rest : List ℕ) (n
 bad_after events rest number count few (inl above) = inl (omega (arith, count, few, above))
 bad_after events rest number count few (inr bad) = inr bad
 
+-- the text of the lines so far
+so_far : {m : Semantics} {schedule rest : List ℕ} {number : ℕ} {s : State} {before now : Option (List ℕ)} {page : List ℕ} → (p : Progress m schedule rest number s before now page)
+    → option_map lines_text (run_lines m (opening m) p.labels) ≡ Some (p.put ++ page)
+so_far p = ap (option_map lines_text) p.shown ∙ ap Some p.is
+
 pub bad_output : {system : System} {schedule rest : List ℕ} {number : ℕ} {s : State} {before now : Option (List ℕ)} {page : List ℕ} {files : Files}
-    → IsSmall system → AreOf system schedule files → (rest ≡ [] → ⊥) → (most_events < number) ⊎ BeginsBadly (process_names system) rest
-    → (p : Progress system schedule rest number s before now page) → IsBadTrace files (p.put ++ (page ++ bad_line number))
-bad_output {system = system} {schedule = schedule} {rest = rest} {number = number} {page = page} {files = files} small of more bad p = record {
-  run = played small of p;
-  schedule = of_schedule files.schedule schedule (λ t. GoesOnAfter (process_names system) t p.events)
-      (record { rest = rest; listed = p.listed; split = goes_on (process_names system) schedule rest p.events more p.passed; more = more; bad = bad_after p.events rest number p.count p.listed.few bad }) of.schedule_is;
-  lines = p.put ++ page;
-  shown = p.shown;
-  is = sym (append_assoc p.put page (bad_line number)) ∙ ap (λ n. (p.put ++ page) ++ bad_line n) p.count;
-}
+    → AreOf system schedule files → (rest ≡ [] → ⊥) → (most_events < number) ⊎ BeginsBadly (names_in (semantics_of system)) rest
+    → (p : Progress (semantics_of system) schedule rest number s before now page) → IsBadTrace files (p.put ++ (page ++ bad_line number))
+bad_output {system = system} {schedule = schedule} {rest = rest} {number = number} {page = page} {files = files} of more bad p =
+    let names = names_in (semantics_of system) in
+    record {
+      run = played of p;
+      schedule = of_schedule files.schedule schedule (λ t. GoesOnAfter names t p.events)
+          (record { rest = rest; listed = p.listed; split = goes_on names schedule rest p.events more p.passed; more = more; bad = bad_after p.events rest number p.count p.listed.few bad }) of.schedule_is;
+      lines = p.put ++ page;
+      shown = so_far p;
+      is = sym (append_assoc p.put page (bad_line number)) ∙ ap (λ n. (p.put ++ page) ++ bad_line n) p.count;
+    }
 
 front_output : {system : System} {schedule rest : List ℕ} {number : ℕ} {s : State} {before now : Option (List ℕ)} {page : List ℕ} {files : Files}
-    → IsSmall system → AreOf system schedule files → (p : Progress system schedule rest number s before now page) → IsFrontOfTrace files (p.put ++ page)
-front_output {system = system} {schedule = schedule} {rest = rest} {files = files} small of p =
-    let b = begins (process_names system) schedule rest p.events p.passed in
+    → AreOf system schedule files → (p : Progress (semantics_of system) schedule rest number s before now page) → IsFrontOfTrace files (p.put ++ page)
+front_output {system = system} {schedule = schedule} {rest = rest} {files = files} of p =
+    let names = names_in (semantics_of system) in
+    let b = begins names schedule rest p.events p.passed in
     record {
-      run = played small of p;
-      schedule = of_schedule files.schedule schedule (λ t. BeginsSchedule (process_names system) t p.events) (record { listed = p.listed; rest = b.0; split = b.1 }) of.schedule_is;
-      is = p.shown;
+      run = played of p;
+      schedule = of_schedule files.schedule schedule (λ t. BeginsSchedule names t p.events) (record { listed = p.listed; rest = b.0; split = b.1 }) of.schedule_is;
+      is = so_far p;
     }
 
 pub unfinished_output : {system : System} {schedule rest : List ℕ} {number : ℕ} {s : State} {before now : Option (List ℕ)} {page : List ℕ} {files : Files}
-    → IsSmall system → AreOf system schedule files → (p : Progress system schedule rest number s before now page)
+    → AreOf system schedule files → (p : Progress (semantics_of system) schedule rest number s before now page)
     → IsUnfinished files (p.put ++ (page ++ no_memory_line))
-unfinished_output {page = page} small of p = record {
+unfinished_output {page = page} of p = record {
   front = p.put ++ page;
-  shown = inr (front_output small of p);
+  shown = inr (front_output of p);
   is = sym (append_assoc p.put page no_memory_line);
 }
 
 pub broken_output : {system : System} {schedule : List ℕ} {before now : Option (List ℕ)} {files : Files}
-    → IsSmall system → AreOf system schedule files → Broken system schedule before now → Writes (OfWorld files) WriteFault before now
-broken_output {system = system} {before = before} {now = now} small of b =
+    → AreOf system schedule files → Broken (semantics_of system) schedule before now → Writes (OfWorld files) WriteFault before now
+broken_output {system = system} {before = before} {now = now} of b =
     let p = b.progress in
     record {
       bytes = p.put ++ b.front;
@@ -167,7 +181,7 @@ broken_output {system = system} {before = before} {now = now} small of b =
       kind = record {
         status = NoMemory;
         whole = p.put ++ (b.page ++ no_memory_line);
-        output = unfinished_output small of p;
+        output = unfinished_output of p;
         rest = b.behind ++ no_memory_line;
         front =
             append_assoc p.put b.front (b.behind ++ no_memory_line)
@@ -178,46 +192,40 @@ broken_output {system = system} {before = before} {now = now} small of b =
 -- ---- the ends of a run
 
 -- the same page, as it was handed on
-pub on_page : {system : System} {schedule rest : List ℕ} {number : ℕ} {s : State} {before now : Option (List ℕ)} {page given : List ℕ}
-    → given ≡ page → Progress system schedule rest number s before now page → Progress system schedule rest number s before now given
-on_page {system = system} {schedule = schedule} {rest = rest} {number = number} {s = s} {before = before} {now = now} e p =
-    subst (λ x. Progress system schedule rest number s before now x) (sym e) p
+pub on_page : {m : Semantics} {schedule rest : List ℕ} {number : ℕ} {s : State} {before now : Option (List ℕ)} {page given : List ℕ}
+    → given ≡ page → Progress m schedule rest number s before now page → Progress m schedule rest number s before now given
+on_page {m = m} {schedule = schedule} {rest = rest} {number = number} {s = s} {before = before} {now = now} e p =
+    subst (λ x. Progress m schedule rest number s before now x) (sym e) p
 
 -- the run was played to the end of its schedule
-pub trace_closes : (files : Files) {own system after : System} {schedule : List ℕ} {number : ℕ} {s : State} {before middle now : Option (List ℕ)} {page : List ℕ} {r : Status}
-    → own ≡ system → after ≡ own → IsSmall system → AreOf system schedule files → Progress own schedule [] number s before middle page
-    → ClosesOr Done (page ++ (var_lines after.processes s.stores ++ end_line)) (page ++ no_memory_line) middle now r → Writes (OfWorld files) r before now
-trace_closes files {own = own} {schedule = schedule} {s = s} {middle = middle} {now = now} {page = page} {r = r} same still small of p (inl h) =
-    closes_behind (OfWorld files) p.put p.told (trace_output (subst IsSmall (sym same) small) (subst (λ x. AreOf x schedule files) (sym same) of) p)
-    (subst (λ x. Closes Done (page ++ (var_lines x.processes s.stores ++ end_line)) middle now r) still h)
-trace_closes files {schedule = schedule} same still small of p (inr h) =
-    closes_behind (OfWorld files) p.put p.told (unfinished_output (subst IsSmall (sym same) small) (subst (λ x. AreOf x schedule files) (sym same) of) p) h
+pub trace_closes : (files : Files) {system after : System} {schedule : List ℕ} {number : ℕ} {s : State} {before middle now : Option (List ℕ)} {page : List ℕ} {r : Status}
+    → after ≡ system → IsRunnable system → Fits (semantics_of system) (opening (semantics_of system)) → AreOf system schedule files → Progress (semantics_of system) schedule [] number s before middle page
+    → ClosesOr Done (page ++ lines_text (last_lines (semantics_of after) s)) (page ++ no_memory_line) middle now r → Writes (OfWorld files) r before now
+trace_closes files {s = s} {middle = middle} {now = now} {page = page} {r = r} still runnable fits of p (inl h) =
+    closes_behind (OfWorld files) p.put p.told (trace_output runnable fits of p)
+    (subst (λ x. Closes Done (page ++ lines_text (last_lines (semantics_of x) s)) middle now r) still h)
+trace_closes files still runnable fits of p (inr h) = closes_behind (OfWorld files) p.put p.told (unfinished_output of p) h
 
 -- a line is that of no event
-pub bad_closes : (files : Files) {own system : System} {schedule rest : List ℕ} {number : ℕ} {s : State} {before middle now : Option (List ℕ)} {page : List ℕ} {r : Status}
-    → own ≡ system → IsSmall system → AreOf system schedule files → (rest ≡ [] → ⊥) → (most_events < number) ⊎ BeginsBadly (process_names own) rest
-    → Progress own schedule rest number s before middle page → ClosesOr BadSchedule (page ++ bad_line number) (page ++ no_memory_line) middle now r → Writes (OfWorld files) r before now
-bad_closes files {schedule = schedule} same small of more bad p (inl h) =
-    closes_behind (OfWorld files) p.put p.told (bad_output (subst IsSmall (sym same) small) (subst (λ x. AreOf x schedule files) (sym same) of) more bad p) h
-bad_closes files {schedule = schedule} same small of more bad p (inr h) =
-    closes_behind (OfWorld files) p.put p.told (unfinished_output (subst IsSmall (sym same) small) (subst (λ x. AreOf x schedule files) (sym same) of) p) h
+pub bad_closes : (files : Files) {system : System} {schedule rest : List ℕ} {number : ℕ} {s : State} {before middle now : Option (List ℕ)} {page : List ℕ} {r : Status}
+    → AreOf system schedule files → (rest ≡ [] → ⊥) → (most_events < number) ⊎ BeginsBadly (names_in (semantics_of system)) rest
+    → Progress (semantics_of system) schedule rest number s before middle page → ClosesOr BadSchedule (page ++ bad_line number) (page ++ no_memory_line) middle now r → Writes (OfWorld files) r before now
+bad_closes files of more bad p (inl h) = closes_behind (OfWorld files) p.put p.told (bad_output of more bad p) h
+bad_closes files of more bad p (inr h) = closes_behind (OfWorld files) p.put p.told (unfinished_output of p) h
 
 -- memory was refused
-pub unfinished_closes : (files : Files) {own system : System} {schedule rest : List ℕ} {number : ℕ} {s : State} {before middle now : Option (List ℕ)} {page : List ℕ} {r : Status}
-    → own ≡ system → IsSmall system → AreOf system schedule files → Progress own schedule rest number s before middle page
+pub unfinished_closes : (files : Files) {system : System} {schedule rest : List ℕ} {number : ℕ} {s : State} {before middle now : Option (List ℕ)} {page : List ℕ} {r : Status}
+    → AreOf system schedule files → Progress (semantics_of system) schedule rest number s before middle page
     → Closes NoMemory (page ++ no_memory_line) middle now r → Writes (OfWorld files) r before now
-unfinished_closes files {schedule = schedule} same small of p h =
-    closes_behind (OfWorld files) p.put p.told (unfinished_output (subst IsSmall (sym same) small) (subst (λ x. AreOf x schedule files) (sym same) of) p) h
+unfinished_closes files of p h = closes_behind (OfWorld files) p.put p.told (unfinished_output of p) h
 
--- a put failed
-pub broken_closes : (files : Files) {own system : System} {schedule : List ℕ} {before now : Option (List ℕ)}
-    → own ≡ system → IsSmall system → AreOf system schedule files → Broken own schedule before now → Writes (OfWorld files) WriteFault before now
-broken_closes files {schedule = schedule} same small of b = broken_output (subst IsSmall (sym same) small) (subst (λ x. AreOf x schedule files) (sym same) of) b
+-- what is so of a status and of a failed put is so of what closes with the status
+pub closes_answered : {status r : Status} {bytes : List ℕ} {before now : Option (List ℕ)} (P : Status → Type 0) → P status → P WriteFault → Closes status bytes before now r → P r
+closes_answered P h k (put told) = h
+closes_answered P h k (failed front rest cut told) = k
 
--- what closes with an answer of playing is such an answer
 pub closes_played : {status r : Status} {bytes : List ℕ} {before now : Option (List ℕ)} → IsPlayed status → Closes status bytes before now r → IsPlayed r
-closes_played h (put told) = h
-closes_played h (failed front rest cut told) = tt
+closes_played h = closes_answered IsPlayed h tt
 
 -- nothing but that memory was refused
 pub refused_memory : (files : Files) → IsUnfinished files no_memory_line

@@ -1,24 +1,24 @@
 -- What was put and written of a run, one event after another.
 use Rattle.std.proofs.Common.{◌≡◌, ◌<◌, ◌≤◌, ◌+◌, inl, inr, ℕ, List, [], ◌∷◌, ◌++◌, map, length, Option, Some, None, refl, ap, sym, subst, ◌∙◌, arith, append_assoc, append-nil, length-append, lit≤}
-use Rattle.std.specs.Option.{option_map}
 use Rattle.std.proofs.lemmas.Grind.{flat_map-append}
 use Rattle.std.proofs.lemmas.List.{map-append}
 use Rattle.std.specs.Io.KnownBytes.{Appends}
 use Rattle.tap_base.specs.Lists.{Each}
-use Rattle.tap_base.specs.declared.system.System.{System}
+use Rattle.tap_base.specs.Option.{◌>>=◌}
 use Rattle.abstract_run.specs.Answers.{Answers, Serves}
-use Rattle.abstract_run.specs.Meaning.{Meaning, meaning_of}
-use Rattle.abstract_run.specs.Option.{◌>>=◌}
+use Rattle.abstract_run.specs.Semantics.{Semantics}
 use Rattle.abstract_run.specs.Run.{AllChooseFirst, state_after}
 use Rattle.abstract_run.specs.Step.{step}
 use Rattle.abstract_run.specs.declared.label.Event.{Event}
 use Rattle.abstract_run.specs.declared.label.Label.{Label}
 use Rattle.abstract_run.specs.declared.state.State.{State}
-use Rattle.tapc_core.specs.Run.{opening}
 use Rattle.run_text.specs.ScheduleText.{AreListed, IsFirstLine, IsListed, SpellsEvent, event_line, events_text, most_events}
-use Rattle.tapc_core.specs.Serving.{Passed, Progress, Served}
-use Rattle.run_text.specs.TraceText.{label_lines, lines_text, process_names, step_lines}
-use Rattle.run_text.proofs.SentLines.{bound_to}
+use Rattle.run_text.specs.TraceText.{lines_text, names_in}
+use Rattle.tapc_core.specs.inner.Playing.{Passed, Progress}
+use Rattle.world_run.specs.Opening.{opening}
+use Rattle.world_run.specs.Served.{Served}
+use Rattle.run_text.proofs.RunLines.{run_lines_more}
+use Rattle.world_run.proofs.Lines.{lines_append}
 
 -- ---- bytes
 
@@ -80,7 +80,7 @@ first_line_taken (x ∷ xs) line rest some (inr h) = omega (arith, ap length h.1
 
 -- ---- the run
 
-pub answers_more : (m : Meaning) (s t u : State) (es : List Event) (e : Event) (labels more : List Label)
+pub answers_more : (m : Semantics) (s t u : State) (es : List Event) (e : Event) (labels more : List Label)
     → Answers m s es labels t → Serves m t e more u → Answers m s (es ++ e ∷ []) (labels ++ more) u
 answers_more m s t u [] e labels more h served =
     (more, [], u, ap (λ xs. xs ++ more) h.0 ∙ sym (append-nil more), subst (λ x. Serves m x e more u) h.1 served, (refl, refl))
@@ -95,75 +95,70 @@ after_one : {A B : Type 0} (o : Option (A × B)) (f : A → Option A) (t u : A) 
 after_one None f t u h k = cc
 after_one (Some a) f t u h k = cc
 
-pub state_after_more : (m : Meaning) (s t u : State) (xs ys : List Label) → state_after m s xs ≡ Some t → state_after m t ys ≡ Some u → state_after m s (xs ++ ys) ≡ Some u
+pub state_after_more : (m : Semantics) (s t u : State) (xs ys : List Label) → state_after m s xs ≡ Some t → state_after m t ys ≡ Some u → state_after m s (xs ++ ys) ≡ Some u
 state_after_more m s t u [] ys h k = let e : s ≡ t = cc in subst (λ x. state_after m x ys ≡ Some u) (sym e) k
 state_after_more m s t u (l ∷ xs) ys h k =
     go_on (step m s l) (λ a. state_after m a.0 xs) (λ a. state_after m a.0 (xs ++ ys)) t u (λ a e. state_after_more m a.0 t u xs ys e k) h
 
-some_append : (front a lines b : List ℕ) → Some (front ++ a) ≡ Some lines → Some (front ++ (a ++ b)) ≡ Some (lines ++ b)
-some_append front a lines b h = ap Some (sym (append_assoc front a b)) ∙ ap (λ o. option_map (λ x. x ++ b) o) h
-
--- the lines of labels, and then those of more
-pub label_lines_more : (system : System) (s t : State) (xs ys : List Label) (a b : List ℕ) → state_after (meaning_of system) s xs ≡ Some t → label_lines system s xs ≡ Some a → label_lines system t ys ≡ Some b
-    → label_lines system s (xs ++ ys) ≡ Some (a ++ b)
-label_lines_more system s t [] ys a b ran h k = let e : s ≡ t = cc in let none : [] ≡ a = cc in subst (λ x. label_lines system x ys ≡ Some (a ++ b)) (sym e) (subst (λ x. label_lines system t ys ≡ Some (x ++ b)) none k)
-label_lines_more system s t (l ∷ xs) ys a b ran h k =
-    let after = bound_to (step (meaning_of system) s l) _ a h in
-    let here = bound_to (step_lines system l after.0) _ a after.2 in
-    let others = bound_to (label_lines system after.0.0 xs) _ a here.2 in
-    let rest = rw after.1 at ran in
-    rw (after.1, here.1, label_lines_more system after.0.0 t xs ys others.0 b rest others.1 k) (some_append here.0 others.0 a b others.2)
-
-pub first_more : (m : Meaning) (s t : State) (xs ys : List Label) → state_after m s xs ≡ Some t → AllChooseFirst m s xs → AllChooseFirst m t ys → AllChooseFirst m s (xs ++ ys)
+pub first_more : (m : Semantics) (s t : State) (xs ys : List Label) → state_after m s xs ≡ Some t → AllChooseFirst m s xs → AllChooseFirst m t ys → AllChooseFirst m s (xs ++ ys)
 first_more m s t [] ys h first more = let e : s ≡ t = cc in subst (λ x. AllChooseFirst m x ys) (sym e) more
 first_more m s t (l ∷ xs) ys h first more =
     (first.0, λ u e. first_more m u t xs ys (after_one (step m s l) (λ x. state_after m x xs) u t h e) (first.1 u e) more)
 
-pub answered : (m : Meaning) (s t : State) (es : List Event) (labels : List Label) → Answers m s es labels t → state_after m s labels ≡ Some t
+pub answered : (m : Semantics) (s t : State) (es : List Event) (labels : List Label) → Answers m s es labels t → state_after m s labels ≡ Some t
 answered m s t [] labels h = ap (state_after m s) h.0 ∙ ap Some (sym h.1)
 answered m s t (e ∷ es) labels h = ap (state_after m s) h.3 ∙ state_after_more m s h.2 t h.0 h.1 h.4.ran (answered m h.2 t es h.1 h.5)
 
 -- ---- progress
 
-pub progress_start : (system : System) (schedule : List ℕ) (before : Option (List ℕ)) → Progress system schedule schedule 1 (opening system) before before []
-progress_start system schedule before = record {
+each_and : {A : Type 0} (P : A → Type 0) (xs ys : List A) → Each P xs → Each P ys → Each P (xs ++ ys)
+each_and P [] ys h k = k
+each_and P (x ∷ xs) ys h k = (h.0, each_and P xs ys h.1 k)
+
+pub progress_start : (semantics : Semantics) (schedule : List ℕ) (before : Option (List ℕ)) → Progress semantics schedule schedule 1 (opening semantics) before before []
+progress_start semantics schedule before = record {
   events = [];
   listed = record { each = tt; few = lit≤ tt };
   passed = inl refl;
   count = refl;
   labels = [];
   run = record { answers = (refl, refl); first = tt };
+  sized = tt;
   put = [];
   told = appends_none before;
+  lines = [];
   shown = refl;
+  is = refl;
 }
 
-pub progress_more : {system : System} {schedule rest line tail : List ℕ} {number : ℕ} {s t : State} {before now : Option (List ℕ)} {page after : List ℕ} {e : Event}
-    → number ≤ most_events → Progress system schedule rest number s before now page → (rest ≡ [] → ⊥) → IsFirstLine rest line tail → SpellsEvent (process_names system) line e
-    → Served system e s t page after → Progress system schedule tail (number + 1) t before now after
-progress_more {system = system} {number = number} {s = s} {t = t} {page = page} {after = after} {e = e} few p some first spells served =
-    let ran = answered (meaning_of system) _ s p.events p.labels p.run.answers in
+pub progress_more : {semantics : Semantics} {schedule rest line tail : List ℕ} {number : ℕ} {s t : State} {before now : Option (List ℕ)} {page after : List ℕ} {e : Event}
+    → number ≤ most_events → Progress semantics schedule rest number s before now page → (rest ≡ [] → ⊥) → IsFirstLine rest line tail → SpellsEvent (names_in semantics) line e
+    → Served semantics e s t page after → Progress semantics schedule tail (number + 1) t before now after
+progress_more {semantics = semantics} {number = number} {s = s} {t = t} {page = page} {after = after} {e = e} few p some first spells served =
+    let ran = answered semantics _ s p.events p.labels p.run.answers in
+    let wrote = served.wrote in
     record {
       events = p.events ++ e ∷ [];
       listed = listed_more _ p.events e p.listed spells.0 (omega (arith, p.count, few));
-      passed = passed_more (process_names system) _ p.events _ _ _ e some p.passed first spells.1;
+      passed = passed_more (names_in semantics) _ p.events _ _ _ e some p.passed first spells.1;
       count = omega (arith, p.count, length-append p.events (e ∷ []));
       labels = p.labels ++ served.labels;
       run = record {
-        answers = answers_more (meaning_of system) _ s t p.events e p.labels served.labels p.run.answers served.serves;
-        first = first_more (meaning_of system) _ s p.labels served.labels ran p.run.first served.first;
+        answers = answers_more semantics _ s t p.events e p.labels served.labels p.run.answers served.serves;
+        first = first_more semantics _ s p.labels served.labels ran p.run.first served.first;
       };
+      sized = each_and _ p.labels served.labels p.sized served.sized;
       put = p.put;
       told = p.told;
-      shown =
-          label_lines_more system _ s p.labels served.labels (p.put ++ page) served.wrote.lines ran p.shown served.wrote.shown
-          ∙ ap Some (append_assoc p.put page served.wrote.lines ∙ ap (λ x. p.put ++ x) (sym served.wrote.told));
+      lines = p.lines ++ wrote.lines;
+      shown = run_lines_more semantics _ s p.labels served.labels p.lines wrote.lines ran p.shown wrote.shown;
+      is = lines_append p.lines wrote.lines ∙ ap (λ z. z ++ lines_text wrote.lines) p.is ∙ append_assoc p.put page (lines_text wrote.lines) ∙ ap (λ z. p.put ++ z) (sym wrote.told);
     }
 
 -- the front of the page was put
-pub progress_moved : {system : System} {schedule rest : List ℕ} {number : ℕ} {s : State} {before middle now : Option (List ℕ)} {page left : List ℕ}
-    → Progress system schedule rest number s before middle page → (put : List ℕ) → Appends middle now put → put ++ left ≡ page
-    → Progress system schedule rest number s before now left
+pub progress_moved : {semantics : Semantics} {schedule rest : List ℕ} {number : ℕ} {s : State} {before middle now : Option (List ℕ)} {page left : List ℕ}
+    → Progress semantics schedule rest number s before middle page → (put : List ℕ) → Appends middle now put → put ++ left ≡ page
+    → Progress semantics schedule rest number s before now left
 progress_moved {before = before} {middle = middle} {now = now} {left = left} p put told cut = record {
   events = p.events;
   listed = p.listed;
@@ -171,7 +166,10 @@ progress_moved {before = before} {middle = middle} {now = now} {left = left} p p
   count = p.count;
   labels = p.labels;
   run = p.run;
+  sized = p.sized;
   put = p.put ++ put;
   told = appends_more before middle now p.put put p.told told;
-  shown = p.shown ∙ ap (λ x. Some (p.put ++ x)) (sym cut) ∙ ap Some (sym (append_assoc p.put put left));
+  lines = p.lines;
+  shown = p.shown;
+  is = p.is ∙ ap (λ z. p.put ++ z) (sym cut) ∙ sym (append_assoc p.put put left);
 }

@@ -1,5 +1,6 @@
 -- What a reading of a name gives.
 use Rattle.std.specs.Prelude.{ℕ, ◌+◌, ◌≡◌, ◌≤◌, ◌<◌, List, [], length, take, drop, Option, Some, Result, Ok, Err, IfSome}
+use Rattle.tap_front.specs.Accepting.{longest_text}
 use Rattle.tapc_core.specs.Outside.{Rose}
 use Rattle.tapc_core.specs.declared.reading.ReadError.{ReadError}
 use Rattle.tapc_core.specs.declared.reading.ReadError.TheVariants.{NoMemory, Failed}
@@ -14,14 +15,14 @@ ReadsFront told most bytes left = IfSome told (λ contents. (bytes ≡ take most
 abbrev pub ReadsWhole : Option (List ℕ) → List ℕ → Option (List ℕ) → Type 0
 ReadsWhole told bytes left = IfSome told (λ contents. (bytes ≡ contents) × (left ≡ Some []))
 
--- how many bytes the text of a system has at most
-abbrev pub longest_text : ℕ
-longest_text = 1048576
-
 -- where the contents are told, a text was read whole, and of one that is too long the longest text and one byte more
 abbrev pub ReadsText : Option (List ℕ) → Reading → Option (List ℕ) → Type 0
 ReadsText told (Whole bytes) left = (length bytes ≤ longest_text) × ReadsWhole told bytes left
 ReadsText told TooLong left = IfSome told (λ contents. (longest_text < length contents) × (left ≡ Some (drop (longest_text + 1) contents)))
+
+-- where the contents are told, they were read up to and with the byte behind the longest text, and nothing was begun since
+abbrev pub LeavesText : Option (List ℕ) → Option (List ℕ) → Type 0
+LeavesText told left = IfSome told (λ contents. left ≡ Some (drop (longest_text + 1) contents))
 
 -- the count rose where a call failed, and is as before with every other answer
 abbrev pub HasReadCause : {T : Type 0} → ℕ → ℕ → Result T ReadError → Type 0

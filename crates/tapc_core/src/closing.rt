@@ -1,15 +1,27 @@
 //! The last bytes of a run, and the status that it ends with.
 
 ghost use Rattle.std.specs.Prelude.{◌≡◌, ◌≢◌, ◌++◌};
-ghost use Rattle.tapc_core.specs.Closing.{Closes};
+ghost use Rattle.tapc_core.specs.Causes.{HasSinkCause};
 ghost use Rattle.tapc_core.specs.Outside.{HasCause, PutAppends};
-ghost use Rattle.tapc_core.specs.Output.{HasSinkCause};
+ghost use Rattle.tapc_core.specs.inner.Closing.{Closes};
 
 use crate::outside::{Failed, Sink};
 use crate::status::Status;
 
+/// Puts the one text that a run writes, and answers the status; where the put fails, `WriteFault`.
+pub fn close<O: Sink>(text: &[u8], out: &mut O, status: Status) -> Status
+    requires { status ≢ Status.WriteFault }
+    ensures closes { Closes status text.now (O.written out.old) (O.written out.new) result }
+    ensures cause { HasSinkCause result (O.faults out.old) (O.faults out.new) }
+{
+    match out.put(text) {
+        Ok(()) => status,
+        Err(Failed) => Status::WriteFault,
+    }
+}
+
 /// Puts the page and the last lines behind it, and answers the status; where a put fails, `WriteFault`.
-pub fn close<O: Sink>(page: &[u8], last: &[u8], out: &mut O, status: Status) -> Status
+pub(crate) fn close_behind<O: Sink>(page: &[u8], last: &[u8], out: &mut O, status: Status) -> Status
     requires { status ≢ Status.WriteFault }
     ensures closes { Closes status (page.now ++ last.now) (O.written out.old) (O.written out.new) result }
     ensures cause { HasSinkCause result (O.faults out.old) (O.faults out.new) }
@@ -20,10 +32,14 @@ pub fn close<O: Sink>(page: &[u8], last: &[u8], out: &mut O, status: Status) -> 
     }
 }
 
+/// Puts the page, where it has something, and then the last lines.
 fn put_both<O: Sink>(page: &[u8], last: &[u8], out: &mut O) -> Result<(), Failed>
     ensures appends { PutAppends (O.written out.old) (O.written out.new) result (page.now ++ last.now) }
     ensures cause { HasCause (O.faults out.old) (O.faults out.new) result }
 {
+    if page.is_empty() {
+        return out.put(last);
+    }
     out.put(page)?;
     out.put(last)
 }

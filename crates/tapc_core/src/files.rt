@@ -1,28 +1,25 @@
 //! The files that a command works on, read.
 
 ghost use Rattle.std.specs.Prelude.{◌≡◌, ℕ, List, Err, IfOk, IfSome, OnOk};
-ghost use Rattle.tap_base.specs.Small.{IsSmall};
-ghost use Rattle.tapc_core.specs.FileFaults.{HasFileCause, WasRead};
+ghost use Rattle.abstract_run.specs.Runnable.{IsRunnable};
+ghost use Rattle.abstract_run.specs.Semantics.{semantics_of};
 ghost use Rattle.run_text.specs.Names.{AreNames};
-ghost use Rattle.tapc_core.specs.Offences.{Accepted, IsMisspelling, IsReadAs, Offends};
+ghost use Rattle.run_text.specs.TraceText.{names_in};
+ghost use Rattle.tap_front.specs.Accepting.{Accepted, IsReadAs};
+ghost use Rattle.tap_front.specs.Offences.{IsMisspelling, Offends};
 ghost use Rattle.tapc_core.specs.Outside.{IsTold};
-ghost use Rattle.tapc_core.specs.Output.{files_named};
-ghost use Rattle.tapc_core.specs.Run.{AreOf};
-ghost use Rattle.run_text.specs.TraceText.{process_names};
+ghost use Rattle.tapc_core.specs.Reading.{LeavesText};
+ghost use Rattle.tapc_core.specs.Run.{FileGives};
+ghost use Rattle.tapc_core.specs.commands.World.{files_named};
+ghost use Rattle.tapc_core.specs.inner.FileFaults.{HasFileCause, WasRead};
+ghost use Rattle.tapc_core.specs.inner.Playing.{AreOf};
 
-use crate::offence::Offence;
 use crate::outside::Store;
 use crate::reading::{ReadError, Reading, read_text, read_whole};
-use crate::texts::{TextFault, accept, tree_of};
 use std::alloc::Global;
-use tap_base::{Ast, List, Place, Refusal, RefusalCode, System};
+use tap_base::{Ast, List, System};
+use tap_front::{Offence, TOO_LONG, TextFault, accept, tree_of};
 use tap_parser::ParseFault;
-
-/// The offence of a text that is too long.
-const TOO_LONG: Offence = Offence::Coded(Refusal {
-    code: RefusalCode::L0,
-    place: Place { line: 1, column: 1 },
-});
 
 /// Why there is nothing to work on.
 #[derive(Clone, Copy, Debug, PartialEq, Eq)]
@@ -37,7 +34,7 @@ pub enum FileFault {
 
 impl From<ReadError> for FileFault {
     ghost use Rattle.std.specs.Prelude.{◌≡◌};
-    ghost use Rattle.tapc_core.specs.FileFaults.{unread};
+    ghost use Rattle.tapc_core.specs.inner.FileFaults.{unread};
 
     ghost from_gives = { λ e fault. fault ≡ unread e };
 
@@ -51,7 +48,7 @@ impl From<ReadError> for FileFault {
 
 impl From<TextFault> for FileFault {
     ghost use Rattle.std.specs.Prelude.{◌≡◌};
-    ghost use Rattle.tapc_core.specs.FileFaults.{unaccepted};
+    ghost use Rattle.tapc_core.specs.inner.FileFaults.{unaccepted};
 
     ghost from_gives = { λ e fault. fault ≡ unaccepted e };
 
@@ -70,10 +67,11 @@ pub fn read_files<S: Store>(
     schedule: &str,
     store: &mut S,
 ) -> Result<(System, List<u8>), FileFault>
-    ensures small { IfOk result (λ r. IsSmall r.0) }
-    ensures named { IfOk result (λ r. AreNames (process_names r.0)) }
+    ensures runnable { IfOk result (λ r. IsRunnable r.0) }
+    ensures apart { IfOk result (λ r. AreNames (names_in (semantics_of r.0))) }
     ensures read { IfOk result (λ r. AreOf r.0 r.1 (files_named system.now schedule.now (S.contents store.old))) }
     ensures refused { (o : Offence) → result ≡ Err (FileFault.Refused o) → IfSome (S.contents store.old system.now) (λ text. Offends text o) }
+    ensures left { (o : Offence) → result ≡ Err (FileFault.Refused o) → LeavesText (S.contents store.old system.now) (S.left store.new) }
     ensures found { WasRead result → IsTold (S.left store.old) → IsTold (S.contents store.old system.now) }
     ensures found_schedule { OnOk result (IsTold (S.left store.old) → IsTold (S.contents store.old schedule.now)) }
     ensures cause { HasFileCause (S.faults store.old) (S.faults store.new) result }
@@ -89,10 +87,12 @@ pub fn read_files<S: Store>(
 /// Reads the text of a system, and the system that it is accepted as. A text that is too long is refused L0
 /// at 1:1, whatever it holds.
 pub fn read_system<S: Store>(alloc: Global, name: &str, store: &mut S) -> Result<System, FileFault>
-    ensures small { IfOk result IsSmall }
-    ensures named { IfOk result (λ s. AreNames (process_names s)) }
+    ensures runnable { IfOk result IsRunnable }
+    ensures apart { IfOk result (λ s. AreNames (names_in (semantics_of s))) }
     ensures accepted { IfOk result (λ s. IfSome (S.contents store.old name.now) (λ text. Accepted text s)) }
+    ensures gives { IfOk result (λ s. FileGives (S.contents store.old name.now) (semantics_of s)) }
     ensures refused { (o : Offence) → result ≡ Err (FileFault.Refused o) → IfSome (S.contents store.old name.now) (λ text. Offends text o) }
+    ensures left { WasRead result → LeavesText (S.contents store.old name.now) (S.left store.new) }
     ensures found { WasRead result → IsTold (S.left store.old) → IsTold (S.contents store.old name.now) }
     ensures told { OnOk result (IsTold (S.left store.old) → IsTold (S.left store.new)) }
     ensures stays { (n : List ℕ) → S.contents store.new n ≡ S.contents store.old n }
@@ -100,7 +100,7 @@ pub fn read_system<S: Store>(alloc: Global, name: &str, store: &mut S) -> Result
 {
     match read_text(alloc, store, name)? {
         Reading::Whole(text) => Ok(accept(alloc, text.as_slice())?),
-        Reading::TooLong => Err(FileFault::Refused(TOO_LONG)),
+        Reading::TooLong => Err(FileFault::Refused(Offence::Coded(TOO_LONG))),
     }
 }
 
@@ -109,6 +109,7 @@ pub fn read_system<S: Store>(alloc: Global, name: &str, store: &mut S) -> Result
 pub fn read_tree<S: Store>(alloc: Global, name: &str, store: &mut S) -> Result<Ast, FileFault>
     ensures read { IfOk result (λ tree. IfSome (S.contents store.old name.now) (λ text. IsReadAs text tree)) }
     ensures refused { (o : Offence) → result ≡ Err (FileFault.Refused o) → IfSome (S.contents store.old name.now) (λ text. IsMisspelling text o) }
+    ensures left { WasRead result → LeavesText (S.contents store.old name.now) (S.left store.new) }
     ensures found { WasRead result → IsTold (S.left store.old) → IsTold (S.contents store.old name.now) }
     ensures cause { HasFileCause (S.faults store.old) (S.faults store.new) result }
 {
@@ -118,6 +119,6 @@ pub fn read_tree<S: Store>(alloc: Global, name: &str, store: &mut S) -> Result<A
             Err(ParseFault::Refused(refusal)) => Err(FileFault::Refused(Offence::Coded(refusal))),
             Err(ParseFault::NoMemory) => Err(FileFault::NoMemory),
         },
-        Reading::TooLong => Err(FileFault::Refused(TOO_LONG)),
+        Reading::TooLong => Err(FileFault::Refused(Offence::Coded(TOO_LONG))),
     }
 }

@@ -1,21 +1,24 @@
 //! The world is played on a schedule.
 
 ghost use Rattle.std.specs.Prelude.{◌≡◌, ◌≤◌, ◌<◌, ◌^◌, ◌⊎◌, [], length, MatchOption, OnSome};
-ghost use Rattle.tap_base.specs.Small.{IsSmall};
-ghost use Rattle.abstract_run.specs.Calm.{cells_in};
-ghost use Rattle.tapc_core.specs.Outside.{HasCause};
-ghost use Rattle.tapc_core.specs.Run.{opening};
+ghost use Rattle.abstract_run.specs.CellCount.{cells_in};
+ghost use Rattle.abstract_run.specs.Runnable.{IsRunnable};
+ghost use Rattle.abstract_run.specs.Semantics.{semantics_of};
 ghost use Rattle.run_text.specs.Names.{AreNames};
 ghost use Rattle.run_text.specs.ScheduleText.{IsOfNoEvent, SpellsEvent, most_events};
-ghost use Rattle.tapc_core.specs.Serving.{HasPlayCause, IsSteady, Moves, Plays};
-ghost use Rattle.run_text.specs.TraceText.{process_names};
+ghost use Rattle.run_text.specs.TraceText.{names_in};
+ghost use Rattle.tapc_core.specs.Outside.{HasCause};
+ghost use Rattle.tapc_core.specs.inner.Playing.{HasPlayCause, Moves, Plays};
+ghost use Rattle.world_run.specs.Names.{AreNamesOf};
+ghost use Rattle.world_run.specs.Opening.{opening};
+ghost use Rattle.world_run.specs.Served.{IsSteady};
 
 use crate::outside::{Failed, Sink};
-use crate::world::World;
 use abstract_run::Event;
-use run_text::{first_line, read_event};
+use run_text::{Names, first_line, read_event};
 use std::alloc::Global;
-use tap_base::{NoMemory, System};
+use tap_base::NoMemory;
+use world_run::World;
 
 /// How many bytes are gathered before they are put.
 const PAGE: usize = 4096;
@@ -59,17 +62,19 @@ impl From<Failed> for Stop {
 pub fn play_lines<O: Sink>(
     alloc: Global,
     world: &mut World,
+    names: &Names,
     schedule: &[u8],
     page: &mut Vec<u8>,
     out: &mut O,
 ) -> Result<(), Stop>
-    requires small { IsSmall world.old.system }
-    requires steady { IsSteady world.old.system world.old.state }
-    requires opening { world.old.state ≡ opening world.old.system }
+    requires runnable { IsRunnable world.old.system }
+    requires steady { IsSteady (semantics_of world.old.system) world.old.state }
+    requires opening { world.old.state ≡ opening (semantics_of world.old.system) }
     requires no_cells { cells_in world.old.state ≡ 0 }
-    requires named { AreNames (process_names world.old.system) }
+    requires names { AreNamesOf (semantics_of world.old.system) names.now }
+    requires apart { AreNames (names_in (semantics_of world.old.system)) }
     requires empty { page.old.items ≡ [] }
-    ensures plays { Plays world.old.system schedule.now (O.written out.old) result world.new.state (O.written out.new) page.new.items }
+    ensures plays { Plays (semantics_of world.old.system) schedule.now (O.written out.old) result world.new.state (O.written out.new) page.new.items }
     ensures system { world.new.system ≡ world.old.system }
     ensures cause { HasPlayCause (O.faults out.old) (O.faults out.new) result }
 {
@@ -77,10 +82,10 @@ pub fn play_lines<O: Sink>(
     let mut number = 1;
     while !rest.is_empty() {
         let (line, tail) = first_line(rest);
-        let Some(event) = numbered_event(number, line, world.system()) else {
+        let Some(event) = numbered_event(number, line, names) else {
             return Err(Stop::BadLine { number });
         };
-        world.serve(alloc, &event, page)?;
+        world.serve(alloc, names, &event, page)?;
         put_full_page(page, out)?;
         rest = tail;
         number += 1;
@@ -90,16 +95,16 @@ pub fn play_lines<O: Sink>(
 
 /// The event of a line of the schedule, counted from 1; none where the line is that of no event, or of
 /// one event too many.
-pub fn numbered_event(number: u64, line: &[u8], system: &System) -> Option<Event>
-    requires named { AreNames (process_names system.now) }
-    requires few { length system.now.processes < 2 ^ 32 }
-    ensures event { MatchOption result ((most_events < number) ⊎ IsOfNoEvent (process_names system.now) line.now) (λ e. SpellsEvent (process_names system.now) line.now e) }
+fn numbered_event(number: u64, line: &[u8], names: &Names) -> Option<Event>
+    requires apart { AreNames names.now.processes }
+    requires few { length names.now.processes < 2 ^ 32 }
+    ensures event { MatchOption result ((most_events < number) ⊎ IsOfNoEvent names.now.processes line.now) (λ e. SpellsEvent names.now.processes line.now e) }
     ensures within { OnSome result (number ≤ most_events) }
 {
     if number > MOST_EVENTS {
         return None;
     }
-    read_event(line, system)
+    read_event(line, names)
 }
 
 /// Puts the page where it has some kilobytes.

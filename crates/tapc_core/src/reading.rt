@@ -2,17 +2,15 @@
 
 ghost use Rattle.std.specs.Prelude.{◌≡◌, ◌≤◌, ◌<◌, ℕ, List, length, IfOk, OnOk};
 ghost use Rattle.tapc_core.specs.Outside.{IsTold};
-ghost use Rattle.tapc_core.specs.Reading.{HasReadCause, ReadsFront, ReadsText, ReadsWhole};
+ghost use Rattle.tapc_core.specs.Reading.{HasReadCause, LeavesText, ReadsFront, ReadsText, ReadsWhole};
 
 use crate::outside::{Failed, Store};
 use std::alloc::Global;
 use tap_base::{List, NoMemory};
+use tap_front::LONGEST_TEXT;
 
 /// How many bytes a read asks for at most.
 const PIECE: usize = 4096;
-
-/// How many bytes the text of a system has at most.
-pub const LONGEST_TEXT: usize = 1_048_576;
 
 /// Why contents were not read.
 #[derive(Clone, Copy, Debug, PartialEq, Eq)]
@@ -98,6 +96,7 @@ pub fn read_whole<S: Store>(alloc: Global, store: &mut S, name: &str) -> Result<
 /// no further one.
 pub fn read_text<S: Store>(alloc: Global, store: &mut S, name: &str) -> Result<Reading, ReadError>
     ensures text { IfOk result (λ reading. ReadsText (S.contents store.old name.now) reading (S.left store.new)) }
+    ensures left { OnOk result (LeavesText (S.contents store.old name.now) (S.left store.new)) }
     ensures found { OnOk result (IsTold (S.left store.old) → IsTold (S.contents store.old name.now)) }
     ensures stays { (n : List ℕ) → S.contents store.new n ≡ S.contents store.old n }
     ensures cause { HasReadCause (S.faults store.old) (S.faults store.new) result }

@@ -1,11 +1,11 @@
-use Rattle.std.proofs.Common.{◌≡◌, ℕ, ◌+◌, ◌<◌, refl, sym, ◌∙◌, ap, arith, rules}
+use Rattle.std.proofs.Common.{◌+◌, refl, sym, ◌∙◌, ap, arith, rules}
 use Rattle.std.proofs.lemmas.Int.{ints, to_z-of_z}
 use Rattle.tap_base.specs.declared.ast.AstKind.TheVariants as kind
 use Rattle.tap_base.specs.declared.token.Sign.TheVariants as sign
-use Rattle.tap_base.specs.Lexeme.{lexeme, lexemes}
-use Rattle.tap_base.specs.Grammar.{joined, part_of, negation, factor, atom}
-use Rattle.tap_expr.specs.ExprSigns.{starting}
+use Rattle.tap_lexer.specs.Lexeme.{lexeme, lexemes}
 use Rattle.tap_lexer.proofs.TokenPlaces.{lacks_past}
+use Rattle.tap_expr.specs.Grammar.{part_of, negation, factor, atom}
+use Rattle.tap_expr.specs.inner.ExprSigns.{starting}
 use Rattle.tap_expr.proofs.ExprLevels.{valued, levelled, nothing_there, denied_passes, denied_answers, plain_answers, negative_passes, negative_answers, positive_answers, single_passes, single_answers, related_passes, related_answers, first_passes, carries_first, more_passes, carries_more, joined_answers}
 use Rattle.tap_expr.proofs.ExprKinds.{unstarted, number_answers, truth_answers, group_passes, group_open_answers, group_answers, unopened_answers, left_passes, no_comma_answers, right_passes, unclosed_answers, choice_answers, name_answers, part_open_answers, part_answers, index_passes, element_open_answers, element_answers}
 use Rattle.tap_expr.proofs.+expr.Goals as goal
@@ -15,7 +15,7 @@ pub atoms::read_atom-returns-in_default : goal.atoms::read_atom-returns-in_defau
 atoms::read_atom-returns-in_default t c = let xs = lexemes c.args.source.now.text.now c.args.source.now.tokens.now in nothing_there xs c.args.at atom c.in_default.ensures.seen
 
 pub atoms::read_atom-sign-requires : goal.atoms::read_atom-sign-requires
-atoms::read_atom-sign-requires t c = c.requires c.args.at c.in-Some.token (sym c.in-Some.ensures.value)
+atoms::read_atom-sign-requires t c = c.requires.texts c.args.at c.in-Some.token (sym c.in-Some.ensures.value)
 
 pub atoms::read_atom-returns-in-Nothing : goal.atoms::read_atom-returns-in-Nothing
 atoms::read_atom-returns-in-Nothing t c = let xs = lexemes c.args.source.now.text.now c.args.source.now.tokens.now in let x = lexeme c.args.source.now.text.now c.in-Some.token in unstarted xs c.args.at x c.in-Some.ensures.seen (ap starting (sym c.sign.ensures) ∙ sym c.starting.ensures ∙ c.in-Nothing.is)
@@ -150,7 +150,7 @@ pub chains::read_relation-returns-in_default : goal.chains::read_relation-return
 chains::read_relation-returns-in_default t c = let xs = lexemes c.args.source.now.text.now c.args.source.now.tokens.now in single_answers xs c.args.at c.in_ok-left.left c.in_ok-left.ensures c.in_default.ensures.is
 
 pub chains::read_relation-read_joined-requires-2 : goal.chains::read_relation-read_joined-requires-2
-chains::read_relation-read_joined-requires-2 t c = let xs = lexemes c.args.source.now.text.now c.args.source.now.tokens.now in let further = (c.in_ok-left.ensures xs refl).1.further in let within = c.in-Some.ensures.within in (omega (arith, c.decreases, further, within), c.requires)
+chains::read_relation-read_joined-requires-2 t c = let xs = lexemes c.args.source.now.text.now c.args.source.now.tokens.now in let further = (c.in_ok-left.ensures xs refl).1.further in let within = c.in-Some.ensures.within in search rules
 
 pub chains::read_relation-returns-in_err-right : goal.chains::read_relation-returns-in_err-right
 chains::read_relation-returns-in_err-right t c = let xs = lexemes c.args.source.now.text.now c.args.source.now.tokens.now in let x = lexeme c.args.source.now.text.now c.in-Some.token in related_passes xs c.args.at x c.in-Some.op c.in_ok-left.left _ _ c.from_residual-in_err-right.ensures.1 c.in_ok-left.ensures c.in-Some.ensures.is.0 c.in-Some.ensures.is.1 c.in_err-right.ensures

@@ -1,7 +1,7 @@
 use Rattle.std.proofs.Common.{ℕ, ◌+◌, ◌-◌, ◌*◌, ◌<◌, length}
 use Rattle.tap_base.specs.declared.join.Join.{Join}
 use Rattle.tap_base.specs.declared.join.Join.TheVariants.{Disjunction, Conjunction, Sum, Term}
-use Rattle.tap_base.specs.Lexeme.{lexemes}
+use Rattle.tap_lexer.specs.Lexeme.{lexemes}
 use Rattle.tap_expr.proofs.ExprLevels.{Carries}
 use Rattle.tap_expr.proofs.+expr.Given as goal
 

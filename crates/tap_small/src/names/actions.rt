@@ -1,8 +1,8 @@
 //! Actions whose names are declared.
 
 ghost use Rattle.std.specs.Prelude.{◌≡◌, IfOk};
-ghost use Rattle.tap_base.specs.SmallNames.{action_of, each};
-ghost use Rattle.tap_small.specs.Scopes.{AreFew, scope_of};
+ghost use Rattle.tap_small.specs.SmallNames.{action_of, each};
+ghost use Rattle.tap_small.specs.inner.Scopes.{AreFew, scope_of};
 
 use crate::names::guards::guard_named;
 use crate::names::lookup::Names;

@@ -1,8 +1,8 @@
 //! Expressions whose names are declared.
 
 ghost use Rattle.std.specs.Prelude.{◌≡◌, IfOk};
-ghost use Rattle.tap_base.specs.SmallNames.{atom_of, each, test_of};
-ghost use Rattle.tap_small.specs.Scopes.{AreFew, scope_of};
+ghost use Rattle.tap_small.specs.SmallNames.{atom_of, each, test_of};
+ghost use Rattle.tap_small.specs.inner.Scopes.{AreFew, scope_of};
 
 use crate::names::lookup::Names;
 use std::alloc::Global;

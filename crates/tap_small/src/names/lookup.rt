@@ -2,8 +2,8 @@
 
 ghost use Rattle.std.specs.Prelude.{◌≡◌, ◌<◌, length, IfSome, option_and_then};
 ghost use Rattle.std.specs.Option.{option_copied};
-ghost use Rattle.tap_base.specs.SmallNames.{ast_names, body_scope, field_named, message_named, number_named, part_named, process_named, received_by, var_named};
-ghost use Rattle.tap_small.specs.Scopes.{AreFew, scope_of};
+ghost use Rattle.tap_small.specs.SmallNames.{ast_names, body_scope, field_named, message_named, number_named, part_named, process_named, received_by, var_named};
+ghost use Rattle.tap_small.specs.inner.Scopes.{AreFew, scope_of};
 
 use tap_base::{AstProcess, Guard, Message, Var, item};
 

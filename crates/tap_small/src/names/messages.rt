@@ -2,7 +2,7 @@
 
 ghost use Rattle.std.specs.Prelude.{◌≡◌, ◌<◌, ◌^◌, unsigned_abs, IfOk};
 ghost use Rattle.tap_base.specs.Lists.{Each};
-ghost use Rattle.tap_base.specs.SmallNames.{each, field_of, message_of};
+ghost use Rattle.tap_small.specs.SmallNames.{each, field_of, message_of};
 ghost use Rattle.tap_small.specs.Few.{DeclaresFewFields};
 
 use std::alloc::Global;

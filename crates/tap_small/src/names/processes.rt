@@ -2,9 +2,9 @@
 
 ghost use Rattle.std.specs.Prelude.{◌≡◌, ◌≤◌, length, IfOk};
 ghost use Rattle.tap_base.specs.Lists.{Each};
-ghost use Rattle.tap_base.specs.SmallNames.{ast_names, each, process_of};
+ghost use Rattle.tap_small.specs.SmallNames.{ast_names, each, process_of};
 ghost use Rattle.tap_small.specs.Few.{HasFewVars};
-ghost use Rattle.tap_small.specs.Scopes.{MessagesAreFew};
+ghost use Rattle.tap_small.specs.inner.Scopes.{MessagesAreFew};
 
 use crate::names::actions::actions_named;
 use crate::names::lookup::Names;

@@ -1,8 +1,8 @@
 //! Statements whose names are declared.
 
 ghost use Rattle.std.specs.Prelude.{◌≡◌, IfOk};
-ghost use Rattle.tap_base.specs.SmallNames.{assignment_of, each, send_of, stmt_of, target_of};
-ghost use Rattle.tap_small.specs.Scopes.{AreFew, scope_of};
+ghost use Rattle.tap_small.specs.SmallNames.{assignment_of, each, send_of, stmt_of, target_of};
+ghost use Rattle.tap_small.specs.inner.Scopes.{AreFew, scope_of};
 
 use crate::names::exprs::values_named;
 use crate::names::lookup::Names;

@@ -1,7 +1,7 @@
 //! Variables that a tree declares.
 
 ghost use Rattle.std.specs.Prelude.{◌≡◌, length, IfOk, IfSome};
-ghost use Rattle.tap_base.specs.SmallNames.{each, range_of_scalar, range_of_type, var_of};
+ghost use Rattle.tap_small.specs.SmallNames.{each, range_of_scalar, range_of_type, var_of};
 
 use std::alloc::Global;
 use tap_base::{AstScalar, AstType, AstVar, Bound, List, NoMemory, Range, Text, Var};

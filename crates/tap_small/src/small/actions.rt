@@ -1,11 +1,12 @@
 //! Actions.
 
-ghost use Rattle.tap_base.specs.Lexeme.{lexemes};
-ghost use Rattle.tap_base.specs.SmallGrammar.{IsAction, IsActions, Separated};
-ghost use Rattle.tap_base.specs.Spans.{AreTexts};
-ghost use Rattle.tap_small.specs.Ends.{EndsBody, EndsActions};
-ghost use Rattle.tap_lexer.specs.Reading.{Closed, Free};
-ghost use Rattle.tap_small.specs.Reading.{Answers};
+ghost use Rattle.tap_lexer.specs.Lexeme.{lexemes};
+ghost use Rattle.tap_lexer.specs.Rows.{Separated};
+ghost use Rattle.tap_small.specs.SmallGrammar.{IsAction, IsActions};
+ghost use Rattle.tap_lexer.specs.Spans.{AreTexts};
+ghost use Rattle.tap_small.specs.inner.Ends.{EndsBody, EndsActions};
+ghost use Rattle.tap_lexer.specs.inner.Reading.{Closed, Free};
+ghost use Rattle.tap_small.specs.inner.Reading.{Answers};
 
 use crate::small::guards::read_guard;
 use crate::small::stmts::read_body;

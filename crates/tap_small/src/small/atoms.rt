@@ -1,11 +1,12 @@
 //! Atoms and tests.
 
 ghost use Rattle.std.specs.Prelude.{◌≡◌, IfOk};
-ghost use Rattle.tap_base.specs.Lexeme.{lexemes};
-ghost use Rattle.tap_base.specs.SmallGrammar.{IsAtom, IsTest, node};
-ghost use Rattle.tap_base.specs.Spans.{AreTexts};
-ghost use Rattle.tap_lexer.specs.Reading.{Lacks};
-ghost use Rattle.tap_small.specs.Reading.{Answers};
+ghost use Rattle.tap_lexer.specs.Lexeme.{lexemes};
+ghost use Rattle.tap_lexer.specs.Leaves.{node};
+ghost use Rattle.tap_small.specs.SmallGrammar.{IsAtom, IsTest};
+ghost use Rattle.tap_lexer.specs.Spans.{AreTexts};
+ghost use Rattle.tap_lexer.specs.inner.Reading.{Lacks};
+ghost use Rattle.tap_small.specs.inner.Reading.{Answers};
 
 use crate::stop::Stop;
 use std::alloc::Global;

@@ -1,10 +1,10 @@
 //! Guards.
 
-ghost use Rattle.tap_base.specs.Lexeme.{lexemes};
-ghost use Rattle.tap_base.specs.SmallGrammar.{IsGuard};
-ghost use Rattle.tap_base.specs.Spans.{AreTexts};
-ghost use Rattle.tap_lexer.specs.Reading.{Lacks};
-ghost use Rattle.tap_small.specs.Reading.{Answers};
+ghost use Rattle.tap_lexer.specs.Lexeme.{lexemes};
+ghost use Rattle.tap_small.specs.SmallGrammar.{IsGuard};
+ghost use Rattle.tap_lexer.specs.Spans.{AreTexts};
+ghost use Rattle.tap_lexer.specs.inner.Reading.{Lacks};
+ghost use Rattle.tap_small.specs.inner.Reading.{Answers};
 
 use crate::small::atoms::read_test;
 use crate::stop::Stop;

@@ -1,11 +1,12 @@
 //! Messages.
 
 ghost use Rattle.std.specs.Prelude.{◌<◌, IfOk};
-ghost use Rattle.tap_base.specs.Lexeme.{lexemes};
-ghost use Rattle.tap_base.specs.SmallGrammar.{IsField, IsMessage, Rows, Separated};
-ghost use Rattle.tap_base.specs.Spans.{AreTexts};
-ghost use Rattle.tap_lexer.specs.Reading.{Free, Lacks};
-ghost use Rattle.tap_small.specs.Reading.{Answers};
+ghost use Rattle.tap_lexer.specs.Lexeme.{lexemes};
+ghost use Rattle.tap_lexer.specs.Rows.{Rows, Separated};
+ghost use Rattle.tap_small.specs.SmallGrammar.{IsField, IsMessage};
+ghost use Rattle.tap_lexer.specs.Spans.{AreTexts};
+ghost use Rattle.tap_lexer.specs.inner.Reading.{Free, Lacks};
+ghost use Rattle.tap_small.specs.inner.Reading.{Answers};
 
 use crate::stop::Stop;
 use tap_base::{AstField, AstMessage, List, Sign};

@@ -1,12 +1,12 @@
 //! Processes.
 
 ghost use Rattle.std.specs.Prelude.{◌<◌, drop, IfOk};
-ghost use Rattle.tap_base.specs.Lexeme.{lexemes};
-ghost use Rattle.tap_base.specs.SmallGrammar.{IsProcess};
-ghost use Rattle.tap_base.specs.Spans.{AreTexts};
-ghost use Rattle.tap_lexer.specs.Reading.{Free};
-ghost use Rattle.tap_small.specs.Reading.{Answers};
-ghost use Rattle.tap_small.specs.Trees.{RowAnswers};
+ghost use Rattle.tap_lexer.specs.Lexeme.{lexemes};
+ghost use Rattle.tap_small.specs.SmallGrammar.{IsProcess};
+ghost use Rattle.tap_lexer.specs.Spans.{AreTexts};
+ghost use Rattle.tap_lexer.specs.inner.Reading.{Free};
+ghost use Rattle.tap_small.specs.inner.Reading.{Answers};
+ghost use Rattle.tap_small.specs.inner.Trees.{RowAnswers};
 
 use crate::small::actions::read_actions;
 use crate::small::vars::read_vars;

@@ -1,11 +1,12 @@
 //! Sends.
 
-ghost use Rattle.tap_base.specs.Lexeme.{lexemes};
-ghost use Rattle.tap_base.specs.SmallGrammar.{IsAtom, IsStmt, Separated, SomeSeparated};
-ghost use Rattle.tap_base.specs.Spans.{AreTexts};
-ghost use Rattle.tap_small.specs.Ends.{EndsValues};
-ghost use Rattle.tap_lexer.specs.Reading.{Closed, Free, Lacks, Shows};
-ghost use Rattle.tap_small.specs.Reading.{Answers};
+ghost use Rattle.tap_lexer.specs.Lexeme.{lexemes};
+ghost use Rattle.tap_lexer.specs.Rows.{Separated, SomeSeparated};
+ghost use Rattle.tap_small.specs.SmallGrammar.{IsAtom, IsStmt};
+ghost use Rattle.tap_lexer.specs.Spans.{AreTexts};
+ghost use Rattle.tap_small.specs.inner.Ends.{EndsValues};
+ghost use Rattle.tap_lexer.specs.inner.Reading.{Closed, Free, Lacks, Shows};
+ghost use Rattle.tap_small.specs.inner.Reading.{Answers};
 
 use crate::small::atoms::read_atom;
 use crate::stop::Stop;

@@ -1,12 +1,13 @@
 //! Statements.
 
 ghost use Rattle.std.specs.Prelude.{◌≡◌, [], ◌∷◌, None, IfOk};
-ghost use Rattle.tap_base.specs.Lexeme.{lexemes};
-ghost use Rattle.tap_base.specs.SmallGrammar.{IsStmt, Separated};
-ghost use Rattle.tap_base.specs.Spans.{AreTexts};
-ghost use Rattle.tap_small.specs.Ends.{EndsBody};
-ghost use Rattle.tap_lexer.specs.Reading.{Lacks};
-ghost use Rattle.tap_small.specs.Reading.{Answers};
+ghost use Rattle.tap_lexer.specs.Lexeme.{lexemes};
+ghost use Rattle.tap_lexer.specs.Rows.{Separated};
+ghost use Rattle.tap_small.specs.SmallGrammar.{IsStmt};
+ghost use Rattle.tap_lexer.specs.Spans.{AreTexts};
+ghost use Rattle.tap_small.specs.inner.Ends.{EndsBody};
+ghost use Rattle.tap_lexer.specs.inner.Reading.{Lacks};
+ghost use Rattle.tap_small.specs.inner.Reading.{Answers};
 
 use crate::small::atoms::read_atom;
 use crate::small::sends::read_send;

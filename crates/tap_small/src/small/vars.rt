@@ -1,10 +1,11 @@
 //! Variables.
 
-ghost use Rattle.tap_base.specs.Lexeme.{lexemes};
-ghost use Rattle.tap_base.specs.SmallGrammar.{IsVar, IsVars, Separated};
-ghost use Rattle.tap_base.specs.Spans.{AreTexts};
-ghost use Rattle.tap_lexer.specs.Reading.{Closed, Free, Lacks};
-ghost use Rattle.tap_small.specs.Reading.{Answers};
+ghost use Rattle.tap_lexer.specs.Lexeme.{lexemes};
+ghost use Rattle.tap_lexer.specs.Rows.{Separated};
+ghost use Rattle.tap_small.specs.SmallGrammar.{IsVar, IsVars};
+ghost use Rattle.tap_lexer.specs.Spans.{AreTexts};
+ghost use Rattle.tap_lexer.specs.inner.Reading.{Closed, Free, Lacks};
+ghost use Rattle.tap_small.specs.inner.Reading.{Answers};
 
 use crate::stop::Stop;
 use tap_base::{AstScalar, AstType, AstVar, Bound, List, Sign};

@@ -4,7 +4,7 @@ use Rattle.std.specs.Result.{result_ok}
 use Rattle.std.specs.Str.Parse.{ParsesUnsigned}
 use Rattle.std.proofs.lemmas.Fmt.{decimal-digits_value, parse-decimal}
 use Rattle.std.proofs.lemmas.Str.Parse.{numerals_by_value, tells_digits}
-use Rattle.run_text.specs.ScheduleText.{BeginsNumber}
+use Rattle.run_text.specs.inner.Reading.{BeginsNumber}
 use Rattle.run_text.proofs.number.parsed.Goals as goal
 
 -- a word that begins a number has no plus in front

@@ -1,7 +1,7 @@
 use Rattle.std.proofs.Common.{◌≡◌, ◌<◌, ◌^◌, ℕ, List, sym, subst}
 use Rattle.std.specs.Fmt.{decimal}
 use Rattle.std.specs.Str.{IsUtf8}
-use Rattle.run_text.specs.ScheduleText.{BeginsNumber}
+use Rattle.run_text.specs.inner.Reading.{BeginsNumber}
 use Rattle.run_text.proofs.Decimals.{decimal_begins, decimal_text}
 use Rattle.run_text.proofs.number.read_number.Goals as goal
 

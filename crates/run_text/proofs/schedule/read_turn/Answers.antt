@@ -10,7 +10,7 @@ returns-in_default c = turn_of_one_word _ c.args.words.now c.in_default.ensures
 
 pub returns-in_default-process_named : goal.returns-in_default-process_named
 returns-in_default-process_named c =
-    turn_of_no_name c.args.system.now.processes c.args.words.now c.in-Some.name.now c.in-Some.reading.now c.requires.named c.in-Some.ensures.0 c.in-Some.ensures.1
+    turn_of_no_name c.args.names.now.processes c.args.words.now c.in-Some.name.now c.in-Some.reading.now c.requires.named c.in-Some.ensures.0 c.in-Some.ensures.1
     (sym c.in_default-process_named.ensures)
 
 pub returns-in_default-read_number : goal.returns-in_default-read_number
@@ -20,5 +20,5 @@ returns-in_default-read_number c =
 
 pub returns : goal.returns
 returns c =
-    turn_read c.args.system.now.processes c.args.words.now c.in-Some.name.now c.in-Some.reading.now c.in-Some-process_named.process c.in-Some-read_number.reading c.in-Some.ensures.0
+    turn_read c.args.names.now.processes c.args.words.now c.in-Some.name.now c.in-Some.reading.now c.in-Some-process_named.process c.in-Some-read_number.reading c.in-Some.ensures.0
     (sym c.in-Some-process_named.ensures) (omega arith) c.in-Some-read_number.ensures.number

@@ -1,6 +1,6 @@
 use Rattle.std.proofs.Common.{◌≡◌, ◌+◌, true, false, sym, ◌∙◌, ap, arith}
-use Rattle.tap_base.specs.Depth.{opens, closes, one_if}
-use Rattle.tap_base.specs.Lexeme.{lexeme, lexemes}
+use Rattle.tap_lexer.specs.Depth.{opens, closes, one_if}
+use Rattle.tap_lexer.specs.Lexeme.{lexeme, lexemes}
 use Rattle.tap_expr.proofs.ExprDepth.{byte_is, byte_small, passed_bounds, passed_as, passed_more, too_deep, all_shallow, at_token}
 use Rattle.tap_expr.proofs.depth.first_too_deep.Goals as goal
 use Rattle.tap_expr.proofs.depth.first_too_deep.Goals.{else-opens-via-then-opens+else-opened-closed, else-opens-via-else-opens}

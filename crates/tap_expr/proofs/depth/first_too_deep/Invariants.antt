@@ -1,5 +1,5 @@
 use Rattle.std.proofs.Common.{◌-◌, ◌≤◌, length}
-use Rattle.tap_base.specs.Lexeme.{lexemes}
+use Rattle.tap_lexer.specs.Lexeme.{lexemes}
 use Rattle.tap_expr.proofs.ExprDepth.{Passed}
 use Rattle.tap_expr.proofs.depth.first_too_deep.Given as goal
 

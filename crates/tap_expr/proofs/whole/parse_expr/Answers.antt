@@ -1,12 +1,12 @@
-use Rattle.tap_base.specs.declared.ast.AstExpr.{AstExpr}
-use Rattle.tap_base.specs.ExprText.{IsUnspelled}
-use Rattle.tap_base.specs.Grammar.{Spells}
-use Rattle.tap_base.specs.Lexeme.{lexemes}
-use Rattle.tap_base.specs.Nodes.{nodes, most_nodes}
 use Rattle.std.proofs.Common.{◌<◌, min, length}
+use Rattle.tap_base.specs.declared.ast.AstExpr.{AstExpr}
+use Rattle.tap_lexer.specs.Lexeme.{lexemes}
+use Rattle.tap_lexer.proofs.Spans.{spelled_texts}
+use Rattle.tap_expr.specs.ExprText.{IsUnspelled}
+use Rattle.tap_expr.specs.Grammar.{Spells}
+use Rattle.tap_expr.specs.Nodes.{nodes, most_nodes}
 use Rattle.tap_expr.proofs.ExprEnds.{deep_at, unspelled_at, large_at}
 use Rattle.tap_expr.proofs.ExprPlaced.{are_placed}
-use Rattle.tap_lexer.proofs.Spans.{spelled_texts}
 use Rattle.tap_expr.proofs.whole.parse_expr.Goals as goal
 
 pub first_too_deep-requires : goal.first_too_deep-requires
@@ -15,8 +15,8 @@ first_too_deep-requires c = spelled_texts c.args.text.now _ c.args.tokens.now c.
 pub place_at-requires-clause-texts : goal.place_at-requires-clause-texts
 place_at-requires-clause-texts c = spelled_texts c.args.text.now _ c.args.tokens.now c.requires.lexed
 
-pub read_whole-requires : goal.read_whole-requires
-read_whole-requires c = spelled_texts c.args.text.now _ c.args.tokens.now c.requires.lexed
+pub read_whole-requires-clause-texts : goal.read_whole-requires-clause-texts
+read_whole-requires-clause-texts c = spelled_texts c.args.text.now _ c.args.tokens.now c.requires.lexed
 
 pub place_at-requires-in-Ok-Large-clause-texts : goal.place_at-requires-in-Ok-Large-clause-texts
 place_at-requires-in-Ok-Large-clause-texts c = spelled_texts c.args.text.now _ c.args.tokens.now c.requires.lexed

@@ -1,4 +1,4 @@
-use Rattle.tap_base.specs.Lexeme.{lexemes}
+use Rattle.tap_lexer.specs.Lexeme.{lexemes}
 use Rattle.tap_expr.proofs.ExprWholes.{whole_refused, whole_found, whole_longer}
 use Rattle.tap_expr.proofs.whole.read_whole.Goals as goal
 

@@ -1,6 +1,6 @@
 use Rattle.std.proofs.Common.{◌≡◌, ◌+◌, drop}
 use Rattle.std.specs.List.{prefix_len}
-use Rattle.tap_lexer.specs.Lexing.{belongs}
+use Rattle.tap_lexer.specs.inner.Lexing.{belongs}
 use Rattle.tap_lexer.proofs.classes.run.Given as goal
 
 abbrev pub invariant-loop-byte : goal.invariant-loop-byte

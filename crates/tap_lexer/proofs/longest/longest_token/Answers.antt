@@ -1,8 +1,8 @@
 use Rattle.std.proofs.Common.{ℕ, Option, take, sym, ◌∙◌, ap, subst}
 use Rattle.tap_base.specs.declared.token.TokenKind.{TokenKind}
 use Rattle.tap_base.specs.declared.token.TokenKind.TheVariants.{Number}
-use Rattle.tap_base.specs.Tokens.{Longest}
-use Rattle.tap_lexer.specs.Lexing.{Begins, word_kind}
+use Rattle.tap_lexer.specs.Tokens.{Longest}
+use Rattle.tap_lexer.specs.inner.Lexing.{Begins, word_kind}
 use Rattle.tap_lexer.proofs.Pieces.{word_longest, number_longest, none_at_end}
 use Rattle.tap_lexer.proofs.longest.longest_token.Goals as goal
 

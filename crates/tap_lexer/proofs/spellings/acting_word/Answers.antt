@@ -1,6 +1,6 @@
 use Rattle.std.proofs.Common.{rules, arith, sym, ap, codes}
 use Rattle.std.proofs.lemmas.Slice.Eq.{text_from_reads}
-use Rattle.tap_base.specs.Words.{acting_words, sign_in}
+use Rattle.tap_lexer.specs.Words.{acting_words, sign_in}
 use Rattle.tap_lexer.proofs.spellings.acting_word.Goals as goal
 
 pub returns-in-choose : goal.returns-in-choose

@@ -1,5 +1,5 @@
 use Rattle.std.proofs.Common.{sym, ◌∙◌, ◌++◌}
-use Rattle.tap_base.specs.Words.{declaring_words, acting_words, reckoning_words}
+use Rattle.tap_lexer.specs.Words.{declaring_words, acting_words, reckoning_words}
 use Rattle.tap_lexer.proofs.Tables.{found_first, left_second}
 use Rattle.tap_lexer.proofs.spellings.word_sign.Goals as goal
 

@@ -1,8 +1,8 @@
 use Rattle.std.proofs.Common.{sym, ◌∙◌, ap, subst, rules, ℕ, List, ◌≤◌, length, drop}
 use Rattle.std.specs.List.{prefix_len}
 use Rattle.tap_base.specs.declared.place.Place.{Place}
-use Rattle.tap_base.specs.Bytes.{in_comment}
-use Rattle.tap_base.specs.Tokens.{Lexes, unread}
+use Rattle.tap_lexer.specs.Bytes.{in_comment}
+use Rattle.tap_lexer.specs.Tokens.{Lexes, unread}
 use Rattle.tap_lexer.proofs.Reading.{comment_end, comment_line, comment_odd, silent}
 use Rattle.tap_lexer.proofs.steps.comment.Goals as goal
 

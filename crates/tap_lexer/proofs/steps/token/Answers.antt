@@ -3,7 +3,7 @@ use Rattle.std.proofs.lemmas.Int.{ints, to_z-of_z}
 use Rattle.tap_base.specs.declared.token.TokenKind.{TokenKind}
 use Rattle.tap_base.specs.declared.token.TokenKind.TheVariants.{Number}
 use Rattle.tap_base.specs.declared.token.Token.{Token}
-use Rattle.tap_base.specs.Tokens.{Longest, NoToken, value}
+use Rattle.tap_lexer.specs.Tokens.{Longest, NoToken, value}
 use Rattle.tap_lexer.proofs.Reading.{token_none, token_large, token_steps, value_none}
 use Rattle.tap_lexer.proofs.steps.token.Goals as goal
 

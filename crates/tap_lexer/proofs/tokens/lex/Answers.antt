@@ -1,8 +1,8 @@
 use Rattle.std.proofs.Common.{rules, sym, subst, ℕ, List, [], Ok, append-nil}
 use Rattle.std.proofs.lemmas.List.{drop_all}
 use Rattle.tap_base.specs.declared.token.Token.{Token}
-use Rattle.tap_base.specs.Tokens.{Lexes, Outcome, end}
-use Rattle.tap_base.specs.Bytes.{start}
+use Rattle.tap_lexer.specs.Tokens.{Lexes, Outcome, end}
+use Rattle.tap_lexer.specs.Bytes.{start}
 use Rattle.tap_lexer.proofs.Spans.{spelled_texts, spelled_order}
 use Rattle.tap_lexer.proofs.Standing.{shown}
 use Rattle.tap_lexer.proofs.tokens.lex.Goals as goal

@@ -1,6 +1,6 @@
 use Rattle.std.proofs.Common.{◌+◌, ◌-◌, ◌≤◌, drop, length}
-use Rattle.tap_base.specs.Tokens.{Lexes, Outcome, before}
-use Rattle.tap_base.specs.Bytes.{start}
+use Rattle.tap_lexer.specs.Tokens.{Lexes, Outcome, before}
+use Rattle.tap_lexer.specs.Bytes.{start}
 use Rattle.tap_lexer.proofs.tokens.lex.Given as goal
 
 abbrev pub invariant-pieces : goal.invariant-pieces

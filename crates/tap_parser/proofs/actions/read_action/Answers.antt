@@ -1,13 +1,13 @@
-use Rattle.tap_base.specs.Statements.{AreStmts}
 use Rattle.std.proofs.Common.{◌∙◌, Ok, Err}
-use Rattle.tap_base.specs.Grammar.{expression}
-use Rattle.tap_base.specs.Lexeme.{lexeme, lexemes}
-use Rattle.tap_base.specs.Systems.{Sized}
+use Rattle.tap_base.specs.declared.token.Sign.TheVariants as sign
+use Rattle.tap_lexer.specs.Lexeme.{lexeme, lexemes}
+use Rattle.tap_expr.specs.Grammar.{expression}
+use Rattle.tap_expr.specs.inner.ExprReading.{Stops}
+use Rattle.tap_parser.specs.Statements.{AreStmts}
+use Rattle.tap_parser.specs.Systems.{Sized}
 use Rattle.tap_parser.proofs.TextBodies.{Actions, Guards, ToBody, action_answers, action_value, arrow_follows, no_action}
 use Rattle.tap_parser.proofs.TextParts.{after_answers, after_lacks, both_answers, both_stuck, joined, passed, valued}
-use Rattle.tap_expr.specs.ExprReading.{Stops}
-use Rattle.tap_parser.specs.Forms.{BodyStops}
-use Rattle.tap_base.specs.declared.token.Sign.TheVariants as sign
+use Rattle.tap_parser.specs.inner.Forms.{BodyStops}
 use Rattle.tap_parser.proofs.actions.read_action.Goals as goal
 
 pub returns-in_err-guard : goal.returns-in_err-guard

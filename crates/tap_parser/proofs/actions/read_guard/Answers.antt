@@ -1,12 +1,12 @@
 use Rattle.std.proofs.Common.{Ok, Err}
-use Rattle.tap_base.specs.Grammar.{expression}
-use Rattle.tap_base.specs.Lexeme.{lexemes}
+use Rattle.tap_base.specs.declared.token.Sign.TheVariants as sign
+use Rattle.tap_lexer.specs.Lexeme.{lexemes}
+use Rattle.tap_lexer.specs.inner.Reading.{Free}
+use Rattle.tap_expr.specs.Grammar.{expression}
+use Rattle.tap_expr.specs.inner.ExprReading.{Stops}
 use Rattle.tap_parser.proofs.TextBodies.{Guards, local_answers, timeout_answers}
 use Rattle.tap_parser.proofs.TextBounds.{Name}
 use Rattle.tap_parser.proofs.TextParts.{passed, shown_answers, sound, valued}
-use Rattle.tap_expr.specs.ExprReading.{Stops}
-use Rattle.tap_lexer.specs.Reading.{Free}
-use Rattle.tap_base.specs.declared.token.Sign.TheVariants as sign
 use Rattle.tap_parser.proofs.actions.read_guard.Goals as goal
 
 pub returns-in_err-timer : goal.returns-in_err-timer

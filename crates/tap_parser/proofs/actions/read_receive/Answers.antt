@@ -1,13 +1,13 @@
 use Rattle.std.proofs.Common.{Ok, Err}
-use Rattle.tap_base.specs.Grammar.{expression}
-use Rattle.tap_base.specs.Lexeme.{lexemes}
+use Rattle.tap_base.specs.declared.token.Sign.TheVariants as sign
+use Rattle.tap_lexer.specs.Lexeme.{lexemes}
+use Rattle.tap_lexer.specs.inner.Reading.{Free}
+use Rattle.tap_expr.specs.Grammar.{expression}
+use Rattle.tap_expr.specs.inner.ExprReading.{Stops}
 use Rattle.tap_parser.proofs.TextBodies.{Guards, ToSender, receive_answers}
 use Rattle.tap_parser.proofs.TextBounds.{Name, first_stuck, followed}
 use Rattle.tap_parser.proofs.TextParts.{Both, after_answers, after_lacks, joined, passed, sound}
-use Rattle.tap_expr.specs.ExprReading.{Stops}
-use Rattle.tap_lexer.specs.Reading.{Free}
 use Rattle.tap_parser.specs.declared.kept.Kept.TheVariants.{Whole}
-use Rattle.tap_base.specs.declared.token.Sign.TheVariants as sign
 use Rattle.tap_parser.proofs.actions.read_receive.Goals as goal
 
 pub returns-in_err-behind : goal.returns-in_err-behind

@@ -1,12 +1,12 @@
-use Rattle.tap_base.specs.declared.ast.Bound.TheVariants as bound
-use Rattle.tap_parser.specs.declared.kept.Kept.TheVariants.{Whole}
 use Rattle.std.proofs.lemmas.Int.{ints, to_z-of_z}
 use Rattle.std.proofs.Common.{Ok, Err, ap, arith}
-use Rattle.tap_base.specs.Declarations.{IsBound}
-use Rattle.tap_base.specs.Lexeme.{lexemes}
+use Rattle.tap_base.specs.declared.ast.Bound.TheVariants as bound
+use Rattle.tap_lexer.specs.Lexeme.{lexemes}
+use Rattle.tap_lexer.specs.inner.Reading.{Free}
+use Rattle.tap_parser.specs.declared.kept.Kept.TheVariants.{Whole}
+use Rattle.tap_parser.specs.Declarations.{IsBound}
 use Rattle.tap_parser.proofs.TextBounds.{counted_answers, named_answers, Bounds}
 use Rattle.tap_parser.proofs.TextParts.{sound, told_passed, valued}
-use Rattle.tap_lexer.specs.Reading.{Free}
 use Rattle.tap_parser.proofs.bounds.read_bound.Goals as goal
 
 pub returns-in_err-name : goal.returns-in_err-name

@@ -1,11 +1,11 @@
 use Rattle.std.proofs.Common.{Ok, Err}
-use Rattle.tap_base.specs.Declarations.{IsScalar}
-use Rattle.tap_base.specs.Lexeme.{lexemes}
+use Rattle.tap_base.specs.declared.token.Sign.TheVariants as sign
+use Rattle.tap_lexer.specs.Lexeme.{lexemes}
+use Rattle.tap_lexer.specs.inner.Reading.{Free}
+use Rattle.tap_parser.specs.Declarations.{IsScalar}
 use Rattle.tap_parser.proofs.TextBounds.{Bounds, ToBound, between_answers, boolean_answers, first_stuck, followed}
 use Rattle.tap_parser.proofs.TextParts.{after_answers, after_lacks, joined, sound, told_passed}
-use Rattle.tap_lexer.specs.Reading.{Free}
 use Rattle.tap_parser.specs.declared.kept.Kept.TheVariants.{Whole}
-use Rattle.tap_base.specs.declared.token.Sign.TheVariants as sign
 use Rattle.tap_parser.proofs.bounds.read_scalar.Goals as goal
 
 pub returns-then-shows : goal.returns-then-shows

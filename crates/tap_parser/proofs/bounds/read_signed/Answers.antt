@@ -1,11 +1,11 @@
-use Rattle.tap_parser.specs.declared.kept.Kept.TheVariants.{Whole}
 use Rattle.std.proofs.lemmas.Int.{ints, to_z-of_z}
 use Rattle.std.proofs.Common.{Ok, Err, ap, arith}
-use Rattle.tap_base.specs.Declarations.{IsSigned}
-use Rattle.tap_base.specs.Lexeme.{lexemes}
+use Rattle.tap_lexer.specs.Lexeme.{lexemes}
+use Rattle.tap_lexer.specs.inner.Reading.{Free}
+use Rattle.tap_parser.specs.declared.kept.Kept.TheVariants.{Whole}
+use Rattle.tap_parser.specs.Declarations.{IsSigned}
 use Rattle.tap_parser.proofs.TextBounds.{minus_answers, plain_answers, Signed}
 use Rattle.tap_parser.proofs.TextParts.{sound, told_passed, valued}
-use Rattle.tap_lexer.specs.Reading.{Free}
 use Rattle.tap_parser.proofs.bounds.read_signed.Goals as goal
 
 pub returns-in_err-number : goal.returns-in_err-number

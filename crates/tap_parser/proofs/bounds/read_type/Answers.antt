@@ -1,13 +1,13 @@
-use Rattle.tap_base.specs.declared.ast.AstType.TheVariants as type_of
 use Rattle.std.proofs.lemmas.Int.{ints, to_z-of_z}
 use Rattle.std.proofs.Common.{Ok, Err, ◌+◌, ap, arith}
-use Rattle.tap_base.specs.Declarations.{IsType}
-use Rattle.tap_base.specs.Lexeme.{lexemes}
+use Rattle.tap_base.specs.declared.ast.AstType.TheVariants as type_of
+use Rattle.tap_base.specs.declared.token.Sign.TheVariants as sign
+use Rattle.tap_lexer.specs.Lexeme.{lexemes}
+use Rattle.tap_lexer.specs.inner.Reading.{Free}
+use Rattle.tap_parser.specs.Declarations.{IsType}
 use Rattle.tap_parser.proofs.TextBounds.{Number, OfScalar, Scalars, array_answers, first_stuck, followed, single_answers, Types}
 use Rattle.tap_parser.proofs.TextParts.{after_answers, after_lacks, joined, sound, told_passed, valued}
-use Rattle.tap_lexer.specs.Reading.{Free}
 use Rattle.tap_parser.specs.declared.kept.Kept.TheVariants.{Whole}
-use Rattle.tap_base.specs.declared.token.Sign.TheVariants as sign
 use Rattle.tap_parser.proofs.bounds.read_type.Goals as goal
 
 pub returns-in_err-length : goal.returns-in_err-length

@@ -1,13 +1,13 @@
 use Rattle.std.proofs.lemmas.Int.{ints, to_z-of_z}
 use Rattle.std.proofs.Common.{Ok, Err, ap, arith}
-use Rattle.tap_base.specs.Declarations.{IsField}
-use Rattle.tap_base.specs.Lexeme.{lexemes}
+use Rattle.tap_base.specs.declared.token.Sign.TheVariants as sign
+use Rattle.tap_lexer.specs.Lexeme.{lexemes}
+use Rattle.tap_lexer.specs.inner.Reading.{Lacks}
+use Rattle.tap_parser.specs.Declarations.{IsField}
 use Rattle.tap_parser.proofs.TextBounds.{Name, Number, first_stuck, followed}
 use Rattle.tap_parser.proofs.TextDeclared.{Fixed, ToFixed, ToWidth, field_answers, Fields}
 use Rattle.tap_parser.proofs.TextParts.{after_answers, after_lacks, joined, sound, told_passed, Both, valued}
-use Rattle.tap_lexer.specs.Reading.{Lacks}
 use Rattle.tap_parser.specs.declared.kept.Kept.TheVariants.{Whole}
-use Rattle.tap_base.specs.declared.token.Sign.TheVariants as sign
 use Rattle.tap_parser.proofs.declarations.read_field.Goals as goal
 
 pub returns-in_err-name : goal.returns-in_err-name

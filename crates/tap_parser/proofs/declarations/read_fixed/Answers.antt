@@ -1,12 +1,12 @@
-use Rattle.tap_parser.specs.declared.kept.Kept.TheVariants.{Whole}
 use Rattle.std.proofs.lemmas.Int.{ints, to_z-of_z}
 use Rattle.std.proofs.Common.{Ok, Err, ◌+◌, ap, Some, arith}
-use Rattle.tap_base.specs.Declarations.{IsNumber, Optional}
-use Rattle.tap_base.specs.Lexeme.{lexemes}
+use Rattle.tap_base.specs.declared.token.Sign.TheVariants as sign
+use Rattle.tap_lexer.specs.Lexeme.{lexemes}
+use Rattle.tap_lexer.specs.inner.Reading.{Lacks}
+use Rattle.tap_parser.specs.declared.kept.Kept.TheVariants.{Whole}
+use Rattle.tap_parser.specs.Declarations.{IsNumber, Optional}
 use Rattle.tap_parser.proofs.TextDeclared.{absent_answers, number_answers, present_answers, Fixed}
 use Rattle.tap_parser.proofs.TextParts.{renamed, sound, told_passed, valued}
-use Rattle.tap_lexer.specs.Reading.{Lacks}
-use Rattle.tap_base.specs.declared.token.Sign.TheVariants as sign
 use Rattle.tap_parser.proofs.declarations.read_fixed.Goals as goal
 
 pub returns-in_err-number : goal.returns-in_err-number

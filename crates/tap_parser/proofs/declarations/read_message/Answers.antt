@@ -1,13 +1,13 @@
-use Rattle.tap_base.specs.SmallGrammar.{Separated}
 use Rattle.std.proofs.Common.{◌∙◌, Ok, Err}
-use Rattle.tap_base.specs.Declarations.{IsField}
-use Rattle.tap_base.specs.Lexeme.{lexemes}
+use Rattle.tap_base.specs.declared.token.Sign.TheVariants as sign
+use Rattle.tap_lexer.specs.Rows.{Separated}
+use Rattle.tap_lexer.specs.Lexeme.{lexemes}
+use Rattle.tap_lexer.specs.inner.Reading.{Free, Lacks}
+use Rattle.tap_parser.specs.Declarations.{IsField}
 use Rattle.tap_parser.proofs.TextBounds.{Name, first_stuck, followed}
 use Rattle.tap_parser.proofs.TextDeclared.{FieldList, Messages, ToFields, end_after_field, message_answers, message_value}
 use Rattle.tap_parser.proofs.TextParts.{after_answers, after_lacks, closed_answers, closed_lacks, closed_stuck, joined, passed, sound, valued, Both}
-use Rattle.tap_lexer.specs.Reading.{Free, Lacks}
 use Rattle.tap_parser.specs.declared.kept.Kept.TheVariants.{Whole}
-use Rattle.tap_base.specs.declared.token.Sign.TheVariants as sign
 use Rattle.tap_parser.proofs.declarations.read_message.Goals as goal
 
 pub returns-in_err-behind : goal.returns-in_err-behind

@@ -1,9 +1,9 @@
-use Rattle.tap_base.specs.Grammar.{expression}
-use Rattle.tap_base.specs.Lexeme.{lexemes}
-use Rattle.tap_base.specs.Systems.{Sized}
+use Rattle.tap_lexer.specs.Lexeme.{lexemes}
+use Rattle.tap_expr.specs.Grammar.{expression}
+use Rattle.tap_expr.specs.inner.ExprReading.{Stops}
+use Rattle.tap_parser.specs.Systems.{Sized}
 use Rattle.tap_parser.proofs.TextExprs.{expr_answers, expr_stuck}
 use Rattle.tap_parser.proofs.TextParts.{passed}
-use Rattle.tap_expr.specs.ExprReading.{Stops}
 use Rattle.tap_parser.proofs.exprs.read_expr.Goals as goal
 
 pub returns-in_err-found : goal.returns-in_err-found

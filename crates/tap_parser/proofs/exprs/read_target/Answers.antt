@@ -1,15 +1,15 @@
 use Rattle.std.proofs.Common.{Ok, ◌∙◌, Err, ◌+◌, Some, None}
-use Rattle.tap_base.specs.Grammar.{expression}
-use Rattle.tap_base.specs.Lexeme.{lexemes}
-use Rattle.tap_base.specs.Systems.{Sized}
+use Rattle.tap_base.specs.declared.token.Sign.TheVariants as sign
+use Rattle.tap_lexer.specs.Lexeme.{lexemes}
+use Rattle.tap_lexer.specs.inner.Reading.{Lacks}
+use Rattle.tap_expr.specs.Grammar.{expression}
+use Rattle.tap_expr.specs.inner.ExprReading.{Stops}
+use Rattle.tap_parser.specs.Systems.{Sized}
 use Rattle.tap_parser.proofs.TextBodies.{bracket_stops}
 use Rattle.tap_parser.proofs.TextBounds.{Name, first_stuck, followed}
 use Rattle.tap_parser.proofs.TextExprs.{Index, Targets, bare_answers, index_answers, target_answers, target_value}
 use Rattle.tap_parser.proofs.TextParts.{closed_answers, closed_lacks, closed_stuck, joined, passed, renamed, sound, valued}
-use Rattle.tap_expr.specs.ExprReading.{Stops}
-use Rattle.tap_lexer.specs.Reading.{Lacks}
 use Rattle.tap_parser.specs.declared.kept.Kept.TheVariants.{Whole}
-use Rattle.tap_base.specs.declared.token.Sign.TheVariants as sign
 use Rattle.tap_parser.proofs.exprs.read_target.Goals as goal
 
 pub returns-in_err-name : goal.returns-in_err-name

@@ -1,4 +1,4 @@
-use Rattle.tap_base.specs.Lexeme.{lexeme, lexemes}
+use Rattle.tap_lexer.specs.Lexeme.{lexeme, lexemes}
 use Rattle.tap_parser.proofs.TextBounds.{name_answers, name_fails}
 use Rattle.tap_parser.proofs.leaves.read_name.Goals as goal
 

@@ -1,6 +1,6 @@
 use Rattle.std.proofs.lemmas.Int.{ints, to_z-of_z}
 use Rattle.std.proofs.Common.{arith}
-use Rattle.tap_base.specs.Lexeme.{lexeme, lexemes}
+use Rattle.tap_lexer.specs.Lexeme.{lexeme, lexemes}
 use Rattle.tap_parser.proofs.TextBounds.{numeral_answers, numeral_fails}
 use Rattle.tap_parser.proofs.leaves.read_numeral.Goals as goal
 

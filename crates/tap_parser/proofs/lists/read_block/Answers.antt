@@ -1,5 +1,5 @@
 use Rattle.std.proofs.Common.{ap}
-use Rattle.tap_base.specs.Lexeme.{lexemes}
+use Rattle.tap_lexer.specs.Lexeme.{lexemes}
 use Rattle.tap_parser.proofs.TextBlocks.{Blocks, BlockStops, block_answers, no_block_answers, same_kept}
 use Rattle.tap_parser.proofs.TextParts.{valued}
 use Rattle.tap_parser.specs.declared.kept.Kept.TheVariants.{Whole}

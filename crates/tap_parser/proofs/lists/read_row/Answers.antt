@@ -1,6 +1,6 @@
 use Rattle.std.proofs.Common.{Ok, Err, arith}
-use Rattle.tap_base.specs.Lexeme.{lexemes}
-use Rattle.tap_lexer.specs.Reading.{Lacks}
+use Rattle.tap_lexer.specs.Lexeme.{lexemes}
+use Rattle.tap_lexer.specs.inner.Reading.{Lacks}
 use Rattle.tap_parser.proofs.TextBlocks.{RowLists, to_row, of_row, row_stops, same_kept, beyond}
 use Rattle.tap_parser.proofs.TextLists.{leads_first, first_stuck, leads_more, leads_stuck, leads_last}
 use Rattle.tap_parser.proofs.TextParts.{passed}

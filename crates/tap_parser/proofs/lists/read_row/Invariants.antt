@@ -1,5 +1,5 @@
 use Rattle.std.proofs.Common.{◌-◌, length}
-use Rattle.tap_base.specs.Lexeme.{lexemes}
+use Rattle.tap_lexer.specs.Lexeme.{lexemes}
 use Rattle.tap_parser.proofs.TextBlocks.{RowLists}
 use Rattle.tap_parser.proofs.TextLists.{Leads}
 use Rattle.tap_parser.proofs.lists.read_row.Given as goal

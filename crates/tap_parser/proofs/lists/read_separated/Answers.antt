@@ -1,5 +1,5 @@
 use Rattle.std.proofs.Common.{Ok, Err, arith}
-use Rattle.tap_base.specs.Lexeme.{lexemes}
+use Rattle.tap_lexer.specs.Lexeme.{lexemes}
 use Rattle.tap_parser.proofs.TextBlocks.{Steps, Lists, ListStops, parts, separated_starts, to_separated, of_separated}
 use Rattle.tap_parser.proofs.TextLists.{leads_first, first_stuck, leads_more, leads_stuck, leads_last}
 use Rattle.tap_parser.proofs.TextParts.{passed, shown_answers}

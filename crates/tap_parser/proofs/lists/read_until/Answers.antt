@@ -1,6 +1,6 @@
 use Rattle.std.proofs.Common.{◌+◌, ap, Ok, Err}
-use Rattle.tap_base.specs.Lexeme.{lexemes}
-use Rattle.tap_lexer.specs.Reading.{Free}
+use Rattle.tap_lexer.specs.Lexeme.{lexemes}
+use Rattle.tap_lexer.specs.inner.Reading.{Free}
 use Rattle.tap_parser.proofs.TextBlocks.{Lists, ListStops, Untils, none_answers, until_answers, same_kept}
 use Rattle.tap_parser.proofs.TextParts.{passed, closed_answers, closed_lacks, closed_stuck, valued}
 use Rattle.tap_parser.specs.declared.kept.Kept.TheVariants.{Whole}

@@ -1,12 +1,12 @@
 use Rattle.std.proofs.Common.{ap, ◌∙◌, Ok, Err, ◌∷◌}
-use Rattle.tap_base.specs.Lexeme.{lexemes}
+use Rattle.tap_base.specs.declared.token.Sign.TheVariants as sign
+use Rattle.tap_lexer.specs.Lexeme.{lexemes}
+use Rattle.tap_lexer.specs.inner.Reading.{Free}
 use Rattle.tap_parser.proofs.TextBlocks.{same_kept}
 use Rattle.tap_parser.proofs.TextBodies.{box_stops, end_stops, no_action_at_end}
 use Rattle.tap_parser.proofs.TextParts.{after_answers, after_lacks, both_answers, both_stuck, joined, passed, valued}
 use Rattle.tap_parser.proofs.TextProcesses.{ActionList, ConstBlock, ConstStops, FromBegin, FromInputs, FromTimers, FromVars, InputBlock, InputStops, Parts, TimerBlock, TimerStops, VarBlock, VarStops, consts_lead, inputs_lead, parts_answers, timers_lead, vars_lead}
-use Rattle.tap_parser.specs.Keeping.{both}
-use Rattle.tap_lexer.specs.Reading.{Free}
-use Rattle.tap_base.specs.declared.token.Sign.TheVariants as sign
+use Rattle.tap_parser.specs.inner.Keeping.{both}
 use Rattle.tap_parser.proofs.processes.read_declared.Goals as goal
 
 pub returns-in_err-consts : goal.returns-in_err-consts

@@ -1,12 +1,12 @@
+use Rattle.std.proofs.Common.{ap}
+use Rattle.tap_base.specs.declared.token.Sign.TheVariants as sign
+use Rattle.tap_lexer.specs.Lexeme.{lexemes}
+use Rattle.tap_lexer.specs.inner.Reading.{Lacks}
 use Rattle.tap_parser.specs.declared.kept.Kept.TheVariants.{Whole}
 use Rattle.tap_parser.proofs.TextParts.{valued}
-use Rattle.std.proofs.Common.{ap}
-use Rattle.tap_base.specs.Lexeme.{lexemes}
 use Rattle.tap_parser.proofs.TextBlocks.{same_kept}
 use Rattle.tap_parser.proofs.TextDeclared.{message_begins, message_longer}
 use Rattle.tap_parser.proofs.TextProcesses.{MessageRows, no_rows_answers, rows_answers}
-use Rattle.tap_lexer.specs.Reading.{Lacks}
-use Rattle.tap_base.specs.declared.token.Sign.TheVariants as sign
 use Rattle.tap_parser.proofs.processes.read_messages.Goals as goal
 
 pub read_row-requires-clause-begun : goal.read_row-requires-clause-begun

@@ -1,11 +1,11 @@
 use Rattle.std.proofs.Common.{◌∙◌, Ok, Err}
-use Rattle.tap_base.specs.Lexeme.{lexemes}
+use Rattle.tap_base.specs.declared.token.Sign.TheVariants as sign
+use Rattle.tap_lexer.specs.Lexeme.{lexemes}
+use Rattle.tap_lexer.specs.inner.Reading.{Free}
 use Rattle.tap_parser.proofs.TextBounds.{Name, first_stuck, followed}
 use Rattle.tap_parser.proofs.TextParts.{after_answers, after_lacks, joined, passed, sound, valued, Both}
 use Rattle.tap_parser.proofs.TextProcesses.{Parts, Processes, process_answers, process_value}
-use Rattle.tap_lexer.specs.Reading.{Free}
 use Rattle.tap_parser.specs.declared.kept.Kept.TheVariants.{Whole}
-use Rattle.tap_base.specs.declared.token.Sign.TheVariants as sign
 use Rattle.tap_parser.proofs.processes.read_process.Goals as goal
 
 pub returns-in_err-behind : goal.returns-in_err-behind

@@ -1,9 +1,9 @@
 use Rattle.std.proofs.Common.{◌∙◌, Ok, Err}
-use Rattle.tap_base.specs.Lexeme.{lexemes}
+use Rattle.tap_base.specs.declared.token.Sign.TheVariants as sign
+use Rattle.tap_lexer.specs.Lexeme.{lexemes}
+use Rattle.tap_lexer.specs.inner.Reading.{Lacks}
 use Rattle.tap_parser.proofs.TextParts.{both_answers, both_stuck, joined, passed, valued}
 use Rattle.tap_parser.proofs.TextProcesses.{MessageRows, ProcessRow, Systems, messages_lead, process_begins, process_longer, system_answers, tree_value}
-use Rattle.tap_lexer.specs.Reading.{Lacks}
-use Rattle.tap_base.specs.declared.token.Sign.TheVariants as sign
 use Rattle.tap_parser.proofs.processes.read_system.Goals as goal
 
 pub returns-in_err-messages : goal.returns-in_err-messages

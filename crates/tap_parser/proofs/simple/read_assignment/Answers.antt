@@ -1,10 +1,10 @@
 use Rattle.std.proofs.Common.{◌∙◌, Ok, Err}
-use Rattle.tap_base.specs.Lexeme.{lexemes}
+use Rattle.tap_base.specs.declared.token.Sign.TheVariants as sign
+use Rattle.tap_lexer.specs.Lexeme.{lexemes}
 use Rattle.tap_parser.proofs.TextBodies.{comma_stops}
 use Rattle.tap_parser.proofs.TextParts.{after_answers, after_lacks, both_answers, both_stuck, joined, passed, valued}
 use Rattle.tap_parser.proofs.TextStatements.{Stmts, TargetList, TargetsStop, ToValues, ValueList, assign_answers, assign_value, becomes_stops}
-use Rattle.tap_parser.specs.Forms.{StmtStops}
-use Rattle.tap_base.specs.declared.token.Sign.TheVariants as sign
+use Rattle.tap_parser.specs.inner.Forms.{StmtStops}
 use Rattle.tap_parser.proofs.simple.read_assignment.Goals as goal
 
 pub returns-in_err-targets : goal.returns-in_err-targets

@@ -1,11 +1,11 @@
 use Rattle.std.proofs.Common.{Ok, Err}
-use Rattle.tap_base.specs.Lexeme.{lexemes}
+use Rattle.tap_base.specs.declared.token.Sign.TheVariants as sign
+use Rattle.tap_lexer.specs.Lexeme.{lexemes}
+use Rattle.tap_lexer.specs.inner.Reading.{Lacks}
 use Rattle.tap_parser.proofs.TextExprs.{Targets}
 use Rattle.tap_parser.proofs.TextParts.{after_answers, after_lacks, passed, valued}
 use Rattle.tap_parser.proofs.TextStatements.{Stmts, choose_answers}
-use Rattle.tap_lexer.specs.Reading.{Lacks}
-use Rattle.tap_parser.specs.Forms.{StmtStops}
-use Rattle.tap_base.specs.declared.token.Sign.TheVariants as sign
+use Rattle.tap_parser.specs.inner.Forms.{StmtStops}
 use Rattle.tap_parser.proofs.simple.read_choice.Goals as goal
 
 pub returns-in_err-behind : goal.returns-in_err-behind

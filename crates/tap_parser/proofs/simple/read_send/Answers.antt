@@ -1,13 +1,13 @@
 use Rattle.std.proofs.Common.{◌∙◌, Ok, Err}
-use Rattle.tap_base.specs.Lexeme.{lexemes}
+use Rattle.tap_base.specs.declared.token.Sign.TheVariants as sign
+use Rattle.tap_lexer.specs.Lexeme.{lexemes}
+use Rattle.tap_lexer.specs.inner.Reading.{Free}
 use Rattle.tap_parser.proofs.TextBodies.{comma_stops, paren_ends, no_expr_at_close}
 use Rattle.tap_parser.proofs.TextBounds.{Name, first_stuck, followed}
 use Rattle.tap_parser.proofs.TextParts.{Both, after_answers, after_lacks, joined, passed, sound, valued}
 use Rattle.tap_parser.proofs.TextStatements.{InParens, SentValues, Stmts, ToName, send_answers, send_value}
-use Rattle.tap_lexer.specs.Reading.{Free}
-use Rattle.tap_parser.specs.Forms.{StmtStops}
+use Rattle.tap_parser.specs.inner.Forms.{StmtStops}
 use Rattle.tap_parser.specs.declared.kept.Kept.TheVariants.{Whole}
-use Rattle.tap_base.specs.declared.token.Sign.TheVariants as sign
 use Rattle.tap_parser.proofs.simple.read_send.Goals as goal
 
 pub returns-in_err-behind : goal.returns-in_err-behind

@@ -1,11 +1,11 @@
 use Rattle.std.proofs.Common.{Ok, Err}
-use Rattle.tap_base.specs.Lexeme.{lexemes}
+use Rattle.tap_base.specs.declared.token.Sign.TheVariants as sign
+use Rattle.tap_lexer.specs.Lexeme.{lexemes}
+use Rattle.tap_lexer.specs.inner.Reading.{Free}
 use Rattle.tap_parser.proofs.TextBounds.{Name}
 use Rattle.tap_parser.proofs.TextParts.{after_answers, after_lacks, passed, sound}
 use Rattle.tap_parser.proofs.TextStatements.{Stmts, stop_answers}
-use Rattle.tap_lexer.specs.Reading.{Free}
-use Rattle.tap_parser.specs.Forms.{StmtStops}
-use Rattle.tap_base.specs.declared.token.Sign.TheVariants as sign
+use Rattle.tap_parser.specs.inner.Forms.{StmtStops}
 use Rattle.tap_parser.proofs.simple.read_stop.Goals as goal
 
 pub returns-in_err-behind : goal.returns-in_err-behind

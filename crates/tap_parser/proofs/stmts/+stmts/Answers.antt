@@ -1,13 +1,13 @@
 use Rattle.std.proofs.Common.{sym, ap, ◌∙◌, Ok, Err, arith}
 use Rattle.tap_base.specs.declared.token.Sign.TheVariants as sign
-use Rattle.tap_base.specs.Grammar.{expression}
-use Rattle.tap_base.specs.Lexeme.{lexeme, lexemes}
-use Rattle.tap_base.specs.Statements.{AreStmts}
-use Rattle.tap_base.specs.Systems.{Sized}
+use Rattle.tap_lexer.specs.Lexeme.{lexeme, lexemes}
+use Rattle.tap_lexer.specs.inner.Reading.{Free}
+use Rattle.tap_expr.specs.Grammar.{expression}
+use Rattle.tap_expr.specs.inner.ExprReading.{Stops}
+use Rattle.tap_parser.specs.Statements.{AreStmts}
+use Rattle.tap_parser.specs.Systems.{Sized}
 use Rattle.tap_parser.specs.declared.kept.Kept.TheVariants.{Whole}
-use Rattle.tap_expr.specs.ExprReading.{Stops}
-use Rattle.tap_lexer.specs.Reading.{Free}
-use Rattle.tap_parser.specs.Forms.{StmtStops, BodyStops, BranchesStop}
+use Rattle.tap_parser.specs.inner.Forms.{StmtStops, BodyStops, BranchesStop}
 use Rattle.tap_parser.proofs.TextParts.{Both, passed, valued, sound, joined, both_answers, both_stuck, shown_answers, after_answers, after_lacks, closed_answers, closed_lacks, closed_stuck}
 use Rattle.tap_parser.proofs.TextBounds.{Number, followed, first_stuck}
 use Rattle.tap_parser.proofs.TextBodies.{Steps, Bodies, step_starts, to_body, of_body, semicolon_stops, BranchSteps, BranchLists, branch_starts, to_branches, of_branches, box_stops, Branches, ToBody, arrow_follows, branch_answers, branch_value, fi_stops, od_stops}
@@ -128,7 +128,7 @@ read_stmt-returns-in_default t c =
     no_stmt xs c.args.at c.in_default.ensures.seen
 
 pub read_stmt-sign-requires : goal.read_stmt-sign-requires
-read_stmt-sign-requires t c = c.requires c.args.at c.in-Some.token (sym c.in-Some.ensures.value)
+read_stmt-sign-requires t c = c.requires.texts c.args.at c.in-Some.token (sym c.in-Some.ensures.value)
 
 pub read_stmt-returns-in_default-sign : goal.read_stmt-returns-in_default-sign
 read_stmt-returns-in_default-sign t c =

@@ -1,7 +1,7 @@
 use Rattle.std.proofs.Common.{◌+◌, ◌-◌, ◌*◌, length}
 use Rattle.tap_base.specs.declared.token.Sign.TheVariants as sign
-use Rattle.tap_base.specs.Lexeme.{lexemes}
-use Rattle.tap_parser.specs.Forms.{StmtStops, BodyStops}
+use Rattle.tap_lexer.specs.Lexeme.{lexemes}
+use Rattle.tap_parser.specs.inner.Forms.{StmtStops, BodyStops}
 use Rattle.tap_parser.proofs.TextBodies.{Steps, Bodies, BranchSteps, BranchLists}
 use Rattle.tap_parser.proofs.TextLists.{Leads}
 use Rattle.tap_parser.proofs.stmts.+stmts.Given as goal

@@ -1,10 +1,10 @@
 use Rattle.std.proofs.Common.{Ok, Err}
-use Rattle.tap_base.specs.Declarations.{IsBound, Optional}
-use Rattle.tap_base.specs.Lexeme.{lexemes}
+use Rattle.tap_base.specs.declared.token.Sign.TheVariants as sign
+use Rattle.tap_lexer.specs.Lexeme.{lexemes}
+use Rattle.tap_lexer.specs.inner.Reading.{Lacks}
+use Rattle.tap_parser.specs.Declarations.{IsBound, Optional}
 use Rattle.tap_parser.proofs.TextDeclared.{absent_answers, present_answers}
 use Rattle.tap_parser.proofs.TextParts.{sound, told_passed}
-use Rattle.tap_lexer.specs.Reading.{Lacks}
-use Rattle.tap_base.specs.declared.token.Sign.TheVariants as sign
 use Rattle.tap_parser.proofs.vars.read_initial.Goals as goal
 
 pub returns-in_err-bound : goal.returns-in_err-bound

@@ -1,12 +1,12 @@
 use Rattle.std.proofs.Common.{Ok, Err}
-use Rattle.tap_base.specs.Declarations.{IsInput}
-use Rattle.tap_base.specs.Lexeme.{lexemes}
+use Rattle.tap_base.specs.declared.token.Sign.TheVariants as sign
+use Rattle.tap_lexer.specs.Lexeme.{lexemes}
+use Rattle.tap_lexer.specs.inner.Reading.{Free}
+use Rattle.tap_parser.specs.Declarations.{IsInput}
 use Rattle.tap_parser.proofs.TextBounds.{Name, Scalars, first_stuck, followed}
 use Rattle.tap_parser.proofs.TextDeclared.{ToScalar, input_answers}
 use Rattle.tap_parser.proofs.TextParts.{after_answers, after_lacks, joined, sound, told_passed}
-use Rattle.tap_lexer.specs.Reading.{Free}
 use Rattle.tap_parser.specs.declared.kept.Kept.TheVariants.{Whole}
-use Rattle.tap_base.specs.declared.token.Sign.TheVariants as sign
 use Rattle.tap_parser.proofs.vars.read_input.Goals as goal
 
 pub returns-in_err-name : goal.returns-in_err-name

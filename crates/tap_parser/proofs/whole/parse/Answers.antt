@@ -1,9 +1,9 @@
-use Rattle.tap_base.specs.Lexeme.{lexemes}
-use Rattle.tap_base.specs.Systems.{IsUntold, IsTooLarge, SpellsText, SpellsTo}
 use Rattle.std.proofs.Common.{min, length}
-use Rattle.tap_expr.proofs.ExprPlaced.{are_placed}
-use Rattle.tap_parser.proofs.TextEnds.{deep_at, untold_at, large_at}
+use Rattle.tap_lexer.specs.Lexeme.{lexemes}
 use Rattle.tap_lexer.proofs.Spans.{spelled_texts}
+use Rattle.tap_expr.proofs.ExprPlaced.{are_placed}
+use Rattle.tap_parser.specs.Systems.{IsUntold, IsTooLarge, SpellsText, SpellsTo}
+use Rattle.tap_parser.proofs.TextEnds.{deep_at, untold_at, large_at}
 use Rattle.tap_parser.proofs.whole.parse.Goals as goal
 
 pub first_too_deep-requires : goal.first_too_deep-requires
@@ -12,8 +12,8 @@ first_too_deep-requires c = spelled_texts c.args.text.now _ c.args.tokens.now c.
 pub place_at-requires-clause-texts : goal.place_at-requires-clause-texts
 place_at-requires-clause-texts c = spelled_texts c.args.text.now _ c.args.tokens.now c.requires.lexed
 
-pub read_whole-requires : goal.read_whole-requires
-read_whole-requires c = spelled_texts c.args.text.now _ c.args.tokens.now c.requires.lexed
+pub read_whole-requires-clause-texts : goal.read_whole-requires-clause-texts
+read_whole-requires-clause-texts c = spelled_texts c.args.text.now _ c.args.tokens.now c.requires.lexed
 
 pub place_at-requires-in-Ok-Large-clause-texts : goal.place_at-requires-in-Ok-Large-clause-texts
 place_at-requires-in-Ok-Large-clause-texts c = spelled_texts c.args.text.now _ c.args.tokens.now c.requires.lexed

@@ -1,5 +1,5 @@
-use Rattle.std.proofs.Common.{rules, arith, ◌≡◌, ◌∙◌, sym, ap, subst}
-use Rattle.tap_printer.specs.Levels.{as_level}
+use Rattle.std.proofs.Common.{rules, arith}
+use Rattle.tap_printer.specs.inner.Levels.{as_level}
 use Rattle.tap_printer.proofs.Appends.{after_append, on_ok}
 use Rattle.tap_printer.proofs.Phrases.{by_kind, of_index, infix_written, choice_written}
 use Rattle.tap_printer.proofs.exprs.+expr.Goals as goal

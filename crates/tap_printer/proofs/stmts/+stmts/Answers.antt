@@ -1,6 +1,6 @@
-use Rattle.std.proofs.Common.{rules, arith, ◌≡◌, ◌∙◌, sym, ap, subst}
-use Rattle.tap_base.specs.Canonical.{branch_tokens, stmt_tokens}
+use Rattle.std.proofs.Common.{rules}
 use Rattle.tap_base.specs.declared.token.Sign.TheVariants as sign
+use Rattle.tap_printer.specs.Canonical.{branch_tokens, stmt_tokens}
 use Rattle.tap_printer.proofs.Appends.{on_ok}
 use Rattle.tap_printer.proofs.Bodies.{branch_written, assign_written, send_written, select_written, loop_written}
 use Rattle.tap_printer.proofs.Loops.{one_further}

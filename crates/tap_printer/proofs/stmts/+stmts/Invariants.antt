@@ -1,7 +1,7 @@
 use Rattle.std.proofs.Common.{◌≡◌, map, drop}
-use Rattle.tap_base.specs.Canonical.{branch_tokens, separated, stmt_tokens, further}
 use Rattle.tap_base.specs.declared.token.Sign.TheVariants as sign
-use Rattle.tap_printer.specs.Pages.{after}
+use Rattle.tap_printer.specs.Canonical.{branch_tokens, separated, stmt_tokens, further}
+use Rattle.tap_printer.specs.inner.Pages.{after}
 use Rattle.tap_printer.proofs.stmts.+stmts.Given as goal
 
 -- what is written, and then the branches that are left, are the whole

@@ -1,5 +1,5 @@
 use Rattle.std.proofs.Common.{◌≡◌, flat_map, drop}
-use Rattle.tap_printer.specs.Pages.{after}
+use Rattle.tap_printer.specs.inner.Pages.{after}
 use Rattle.tap_printer.proofs.written.write_all.Given as goal
 
 -- what is written, and then the items that are left, are the whole

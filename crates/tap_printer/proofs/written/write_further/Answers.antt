@@ -1,4 +1,3 @@
-use Rattle.std.proofs.Common.{rules, ◌≡◌}
 use Rattle.tap_printer.proofs.Loops.{one_further}
 use Rattle.tap_printer.proofs.written.write_further.Goals as goal
 

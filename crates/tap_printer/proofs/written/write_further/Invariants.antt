@@ -1,6 +1,6 @@
 use Rattle.std.proofs.Common.{◌≡◌, map, drop}
-use Rattle.tap_base.specs.Canonical.{further}
-use Rattle.tap_printer.specs.Pages.{after}
+use Rattle.tap_printer.specs.Canonical.{further}
+use Rattle.tap_printer.specs.inner.Pages.{after}
 use Rattle.tap_printer.proofs.written.write_further.Given as goal
 
 -- what is written, and then the items that are left, are the whole

@@ -3,7 +3,7 @@ use Rattle.tap_base.specs.declared.ast.AstMessage.{AstMessage}
 use Rattle.tap_base.specs.declared.system.Message.{Message}
 use Rattle.tap_base.specs.Lists.{Each}
 use Rattle.tap_small.specs.Few.{DeclaresFewFields}
-use Rattle.tap_small.specs.Scopes.{MessagesAreFew}
+use Rattle.tap_small.specs.inner.Scopes.{MessagesAreFew}
 use Rattle.tap_small.proofs.NamesOf.{messages_are_few}
 use Rattle.tap_small.proofs.names.system_named.Goals as goal
 

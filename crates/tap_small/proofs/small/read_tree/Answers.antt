@@ -1,5 +1,5 @@
 use Rattle.tap_small.proofs.Trees.{refused_messages, refused_processes, tree_found}
-use Rattle.tap_base.specs.Lexeme.{lexemes}
+use Rattle.tap_lexer.specs.Lexeme.{lexemes}
 use Rattle.tap_small.proofs.small.read_tree.Goals as goal
 
 pub returns-in_err-messages : goal.returns-in_err-messages

@@ -1,4 +1,4 @@
-use Rattle.tapc_core.specs.Closing.{failed, put}
+use Rattle.tapc_core.specs.inner.Closing.{failed, put}
 use Rattle.tapc_core.proofs.closing.close.Goals as goal
 
 pub returns-in-Ok-clause-closes : goal.returns-in-Ok-clause-closes

@@ -22,4 +22,4 @@ returns-in_err-put-clause-appends g c =
     front_of_more _ _ c.from_residual.result c.args.page.now c.args.last.now h.0 h.1 c.from_residual.ensures.0 h.2 h.3
 
 pub returns-clause-appends : goal.returns-clause-appends
-returns-clause-appends g c = put_behind _ (g.O.Sink.written c.put.new.self) _ c.put-2.result c.args.page.now c.args.last.now c.in_ok-put.ensures.appends c.put-2.ensures.appends
+returns-clause-appends g c = put_behind _ (g.O.Sink.written c.put-2.new.self) _ c.put-3.result c.args.page.now c.args.last.now c.in_ok-put.ensures.appends c.put-3.ensures.appends

@@ -1,21 +1,37 @@
-use Rattle.std.proofs.Common.{◌≡◌, ◌+◌, ◌≤◌, ◌∙◌, ℕ, List, [], Option, Result, Ok, Err, refl, ap, sym, subst, arith, rules}
+use Rattle.std.proofs.Common.{◌≡◌, ◌+◌, ◌<◌, ◌≤◌, ◌^◌, ◌∙◌, ℕ, List, [], Option, Result, Ok, Err, length, refl, ap, sym, subst, arith, rules}
 use Rattle.std.specs.Result.{IsErrAnd}
-use Rattle.tapc_core.specs.declared.lines.Stop.TheVariants as stop
+use Rattle.std.proofs.lemmas.List.{length-map}
 use Rattle.tap_base.specs.declared.system.System.{System}
+use Rattle.abstract_run.specs.Runnable.{IsRunnable}
+use Rattle.abstract_run.specs.Semantics.{messages_of, process_semantics, semantics_of}
 use Rattle.abstract_run.specs.declared.label.Event.{Event}
 use Rattle.abstract_run.specs.declared.state.State.{State}
-use Rattle.run_text.specs.ScheduleText.{IsFirstLine, SpellsEvent, most_events}
-use Rattle.tapc_core.specs.Serving.{Broken, IsSteady, Plays, Progress, Served}
-use Rattle.run_text.specs.TraceText.{process_names}
+use Rattle.run_text.specs.Names.{AreNames}
+use Rattle.run_text.specs.ScheduleText.{IsFirstLine, IsListed, SpellsEvent, most_events}
+use Rattle.run_text.specs.TraceText.{names_in}
+use Rattle.tapc_core.specs.declared.lines.Stop.TheVariants as stop
+use Rattle.tapc_core.specs.inner.Playing.{Broken, Plays, Progress}
 use Rattle.tapc_core.proofs.Steps.{first_line_taken, progress_more, progress_moved, progress_start}
 use Rattle.tapc_core.proofs.lines.play_lines.Goals as goal
+use Rattle.world_run.specs.Names.{AreNamesOf}
+use Rattle.world_run.specs.Served.{IsSteady, Served}
+
+-- as many names as processes
+pub names_counted : (system : System) → length (names_in (semantics_of system)) ≡ length system.processes
+names_counted system = length-map (semantics_of system).processes (λ p. p.name) ∙ length-map system.processes (process_semantics (messages_of system))
+
+few_names : (system : System) (names : List (List ℕ)) → IsRunnable system → names ≡ names_in (semantics_of system) → length names < 2 ^ 32
+few_names system names runnable e = let n = ap length e in let few = runnable.safe.begins.few in omega (arith, n, few, length-map (semantics_of system).processes (λ p. p.name))
+
+listed_here : (system : System) (names : List (List ℕ)) (line : List ℕ) (e : Event) → names ≡ names_in (semantics_of system) → SpellsEvent names line e → IsListed (length system.processes) e
+listed_here system names line e same h = subst (λ n. IsListed n e) (ap length same ∙ names_counted system) h.0
 
 -- a line was served by the system of the run
-served_line : {system own read : System} {schedule rest line tail : List ℕ} {number : ℕ} {s t : State} {before now : Option (List ℕ)} {page after : List ℕ} {e : Event}
-    → own ≡ system → read ≡ own → number ≤ most_events → Progress system schedule rest number s before now page → (rest ≡ [] → ⊥) → IsFirstLine rest line tail
-    → SpellsEvent (process_names read) line e → Served own e s t page after → Progress system schedule tail (number + 1) t before now after
+served_line : {system own : System} {schedule rest line tail : List ℕ} {number : ℕ} {s t : State} {before now : Option (List ℕ)} {page after : List ℕ} {e : Event} {names : List (List ℕ)}
+    → own ≡ system → names ≡ names_in (semantics_of system) → number ≤ most_events → Progress (semantics_of system) schedule rest number s before now page → (rest ≡ [] → ⊥) → IsFirstLine rest line tail
+    → SpellsEvent names line e → Served (semantics_of own) e s t page after → Progress (semantics_of system) schedule tail (number + 1) t before now after
 served_line {line = line} {s = s} {t = t} {page = page} {after = after} {e = e} same is few p some first spells served =
-    progress_more few p some first (subst (λ x. SpellsEvent (process_names x) line e) (is ∙ same) spells) (subst (λ x. Served x e s t page after) same served)
+    progress_more few p some first (subst (λ n. SpellsEvent n line e) is spells) (subst (λ x. Served (semantics_of x) e s t page after) same served)
 
 pub loop-rest-smaller : goal.loop-rest-smaller
 loop-rest-smaller g c = first_line_taken c.loop-rest.rest.now _ c.first_line.result.1.now (search rules) c.first_line.ensures.first
@@ -31,6 +47,26 @@ loop-rest-init g c = record {
   short = omega arith;
 }
 
+pub numbered_event-requires-clause-apart : goal.numbered_event-requires-clause-apart
+numbered_event-requires-clause-apart g c = subst AreNames (sym c.requires.names.processes) c.requires.apart
+
+pub numbered_event-requires-clause-few : goal.numbered_event-requires-clause-few
+numbered_event-requires-clause-few g c = few_names c.args.world.now.system c.args.names.now.processes c.requires.runnable c.requires.names.processes
+
+pub serve-requires-clause-runnable : goal.serve-requires-clause-runnable
+serve-requires-clause-runnable g c = subst IsRunnable (sym c.loop-rest.invariant.same) c.requires.runnable
+
+pub serve-requires-clause-names : goal.serve-requires-clause-names
+serve-requires-clause-names g c = subst (λ x. AreNamesOf (semantics_of x) c.args.names.now) (sym c.loop-rest.invariant.same) c.requires.names
+
+pub serve-requires-clause-steady : goal.serve-requires-clause-steady
+serve-requires-clause-steady g c = subst (λ x. IsSteady (semantics_of x) c.loop-rest.world.state) (sym c.loop-rest.invariant.same) c.loop-rest.invariant.steady
+
+pub serve-requires-clause-listed : goal.serve-requires-clause-listed
+serve-requires-clause-listed g c =
+    subst (λ x. IsListed (length x.processes) c.in-Some.event) (sym c.loop-rest.invariant.same)
+    (listed_here c.args.world.now.system c.args.names.now.processes _ c.in-Some.event c.requires.names.processes c.in-Some.ensures.event)
+
 pub loop-rest-preserved : goal.loop-rest-preserved
 loop-rest-preserved g c =
     let some : c.loop-rest.rest.now ≡ [] → ⊥ = search rules in
@@ -38,9 +74,9 @@ loop-rest-preserved g c =
     let moves = c.in_ok-put_full_page.ensures.moves in
     let inv = c.loop-rest.invariant in
     record {
-      progress = progress_moved (served_line inv.same c.system.ensures c.in-Some.ensures.within inv.progress some c.first_line.ensures.first c.in-Some.ensures.event c.in_ok-serve.ensures.served) moves.0 moves.1 moves.2;
+      progress = progress_moved (served_line inv.same c.requires.names.processes c.in-Some.ensures.within inv.progress some c.first_line.ensures.first c.in-Some.ensures.event c.in_ok-serve.ensures.served) moves.0 moves.1 moves.2;
       same = c.in_ok-serve.ensures.system ∙ inv.same;
-      steady = subst (λ x. IsSteady x c.serve.new.self.state) inv.same c.in_ok-serve.ensures.steady;
+      steady = subst (λ x. IsSteady (semantics_of x) c.serve.new.self.state) inv.same c.in_ok-serve.ensures.steady;
       kept = c.in_ok-put_full_page.ensures.cause.kept ∙ inv.kept;
       cells = omega (arith, inv.cells, c.in_ok-serve.ensures.cells);
       counted = omega (arith, c.in-Some.ensures.within);
@@ -57,8 +93,9 @@ returns-in_err-put_full_page-clause-plays g c =
     let some : c.loop-rest.rest.now ≡ [] → ⊥ = search rules in
     let moves = c.in_err-put_full_page.ensures.moves in
     let inv = c.loop-rest.invariant in
-    let progress = served_line inv.same c.system.ensures c.in-Some.ensures.within inv.progress some c.first_line.ensures.first c.in-Some.ensures.event c.in_ok-serve.ensures.served in
-    let broken : Broken c.args.world.now.system c.args.schedule.now (g.O.Sink.written c.args.out.now) (g.O.Sink.written c.put_full_page.new.out) =
+    let m = semantics_of c.args.world.now.system in
+    let progress = served_line inv.same c.requires.names.processes c.in-Some.ensures.within inv.progress some c.first_line.ensures.first c.in-Some.ensures.event c.in_ok-serve.ensures.served in
+    let broken : Broken m c.args.schedule.now (g.O.Sink.written c.args.out.now) (g.O.Sink.written c.put_full_page.new.out) =
     record {
       rest = _;
       number = _;
@@ -71,5 +108,5 @@ returns-in_err-put_full_page-clause-plays g c =
       cut = moves.2;
       told = moves.3;
     } in
-    subst (λ r. Plays c.args.world.now.system c.args.schedule.now (g.O.Sink.written c.args.out.now) r c.serve.new.self.state (g.O.Sink.written c.put_full_page.new.out) c.put_full_page.new.page.items)
+    subst (λ r. Plays m c.args.schedule.now (g.O.Sink.written c.args.out.now) r c.serve.new.self.state (g.O.Sink.written c.put_full_page.new.out) c.put_full_page.new.page.items)
     (sym (err_is c.from_residual-in_err-put_full_page.result stop.Failed c.from_residual-in_err-put_full_page.ensures.1)) broken

@@ -1,14 +1,16 @@
 use Rattle.std.proofs.Common.{◌≡◌, ◌+◌, ◌*◌, ◌≤◌, length}
-use Rattle.abstract_run.specs.Calm.{cells_in}
+use Rattle.abstract_run.specs.CellCount.{cells_in}
+use Rattle.abstract_run.specs.Semantics.{semantics_of}
 use Rattle.run_text.specs.ScheduleText.{most_events}
-use Rattle.tapc_core.specs.Serving.{IsSteady, Progress}
+use Rattle.tapc_core.specs.inner.Playing.{Progress}
+use Rattle.world_run.specs.Served.{IsSteady}
 use Rattle.tapc_core.proofs.lines.play_lines.Given as goal
 
 abbrev pub invariant-loop-rest : goal.invariant-loop-rest
 invariant-loop-rest g l = record {
-  progress : Progress l.fn.world.system l.schedule l.rest l.number l.world.state (g.O.Sink.written l.fn.out) (g.O.Sink.written l.out) l.page.items;
+  progress : Progress (semantics_of l.fn.world.system) l.schedule l.rest l.number l.world.state (g.O.Sink.written l.fn.out) (g.O.Sink.written l.out) l.page.items;
   same : l.world.system ≡ l.fn.world.system;
-  steady : IsSteady l.fn.world.system l.world.state;
+  steady : IsSteady (semantics_of l.fn.world.system) l.world.state;
   kept : g.O.Sink.faults l.out ≡ g.O.Sink.faults l.fn.out;
   cells : cells_in l.world.state + 128 ≤ 128 * l.number;
   counted : l.number ≤ most_events + 1;

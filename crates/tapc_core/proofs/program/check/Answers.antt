@@ -1,10 +1,15 @@
-use Rattle.std.proofs.Common.{Err, Some, ap, refl}
+use Rattle.std.proofs.Common.{◌≡◌, Err, List, [], ap, refl, ℕ}
 use Rattle.tap_base.specs.declared.system.System.{System}
-use Rattle.tapc_core.specs.Output.{OfCheck}
-use Rattle.tapc_core.specs.Words.{check}
-use Rattle.tapc_core.proofs.Found.{closed_found, given_up_found, refused_read}
-use Rattle.tapc_core.proofs.Outputs.{closes_alone, gives_up}
+use Rattle.tapc_core.specs.commands.Check.{OfCheck, check_command}
+use Rattle.tapc_core.specs.commands.Text.{IsOfText}
+use Rattle.tapc_core.specs.declared.status.Status.{Status}
+use Rattle.tapc_core.specs.declared.status.Status.TheVariants.{ReadFault, WriteFault, NoMemory}
+use Rattle.tapc_core.proofs.Found.{AreSpared, closed_found, given_up_found, refused_read}
+use Rattle.tapc_core.proofs.Outputs.{closes_alone, closes_answered, gives_up}
 use Rattle.tapc_core.proofs.program.check.Goals as goal
+
+spared : {reads : Status → List (List ℕ)} → reads WriteFault ≡ [] → reads ReadFault ≡ [] → reads NoMemory ≡ [] → AreSpared reads
+spared a b c = record { unwritten = a; unread = b; no_memory = c }
 
 pub returns-in-Ok-clause-writes : goal.returns-in-Ok-clause-writes
 returns-in-Ok-clause-writes g c =
@@ -16,8 +21,11 @@ returns-in-Err-clause-writes g c =
 
 pub returns-in-Ok-clause-found : goal.returns-in-Ok-clause-found
 returns-in-Ok-clause-found g c = λ t.
-    closed_found (Some (check c.args.system.now)) (g.S.Store.contents c.args.store.now) _ _ _ _ c.close.result (c.in-Ok.ensures.found tt t, tt) c.close.ensures.closes
+    closed_found (check_command c.args.system.now).reads (g.S.Store.contents c.args.store.now) _ _ _ _ c.close.result (spared refl refl refl) (c.in-Ok.ensures.found tt t, tt) c.close.ensures.closes
 
 pub returns-in-Err-clause-found : goal.returns-in-Err-clause-found
 returns-in-Err-clause-found g c = λ t.
-    given_up_found (Some (check c.args.system.now)) (g.S.Store.contents c.args.store.now) c.in-Err.fault _ _ c.give_up.result (λ o e. (c.in-Err.ensures.found (refused_read System c.in-Err.fault o e) t, tt)) c.give_up.ensures.closes
+    given_up_found (check_command c.args.system.now).reads (g.S.Store.contents c.args.store.now) c.in-Err.fault _ _ c.give_up.result (spared refl refl refl) (λ o e. (c.in-Err.ensures.found (refused_read System c.in-Err.fault o e) t, tt)) c.give_up.ensures.closes
+
+pub returns-in-Ok-clause-answers : goal.returns-in-Ok-clause-answers
+returns-in-Ok-clause-answers g c = closes_answered IsOfText tt tt c.close.ensures.closes

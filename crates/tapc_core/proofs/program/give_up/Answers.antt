@@ -1,5 +1,5 @@
 use Rattle.std.proofs.Common.{subst, sym}
-use Rattle.tapc_core.specs.Output.{GivesUp}
+use Rattle.tapc_core.specs.inner.FileFaults.{GivesUp}
 use Rattle.tapc_core.specs.declared.files.FileFault.{FileFault}
 use Rattle.tapc_core.proofs.program.give_up.Goals as goal
 

@@ -1,10 +1,14 @@
-use Rattle.std.proofs.Common.{Err, Some, ap, refl, ◌∙◌}
+use Rattle.std.proofs.Common.{◌∙◌, ◌≡◌, Err, List, [], ap, refl, ℕ}
 use Rattle.tap_base.specs.declared.ast.Ast.{Ast}
-use Rattle.tapc_core.specs.Output.{OfPrint}
-use Rattle.tapc_core.specs.Words.{print}
-use Rattle.tapc_core.proofs.Found.{closed_found, given_up_found, refused_read}
+use Rattle.tapc_core.specs.commands.Print.{OfPrint, print_command}
+use Rattle.tapc_core.specs.declared.status.Status.{Status}
+use Rattle.tapc_core.specs.declared.status.Status.TheVariants.{ReadFault, WriteFault, NoMemory}
+use Rattle.tapc_core.proofs.Found.{AreSpared, closed_found, given_up_found, refused_read}
 use Rattle.tapc_core.proofs.Outputs.{closes_alone, gives_up}
 use Rattle.tapc_core.proofs.program.print_tree.Goals as goal
+
+spared : {reads : Status → List (List ℕ)} → reads WriteFault ≡ [] → reads ReadFault ≡ [] → reads NoMemory ≡ [] → AreSpared reads
+spared a b c = record { unwritten = a; unread = b; no_memory = c }
 
 pub returns-in-Ok-print-clause-writes : goal.returns-in-Ok-print-clause-writes
 returns-in-Ok-print-clause-writes g c =
@@ -20,8 +24,8 @@ returns-clause-writes g c =
 
 pub returns-in-Ok-print-clause-found : goal.returns-in-Ok-print-clause-found
 returns-in-Ok-print-clause-found g c = λ t.
-    closed_found (Some (print c.args.system.now)) (g.S.Store.contents c.args.store.now) _ _ _ _ c.close.result (c.in-Ok.ensures.found tt t, tt) c.close.ensures.closes
+    closed_found (print_command c.args.system.now).reads (g.S.Store.contents c.args.store.now) _ _ _ _ c.close.result (spared refl refl refl) (c.in-Ok.ensures.found tt t, tt) c.close.ensures.closes
 
 pub returns-clause-found : goal.returns-clause-found
 returns-clause-found g c = λ t.
-    given_up_found (Some (print c.args.system.now)) (g.S.Store.contents c.args.store.now) c.in-Err.fault _ _ c.give_up.result (λ o e. (c.in-Err.ensures.found (refused_read Ast c.in-Err.fault o e) t, tt)) c.give_up.ensures.closes
+    given_up_found (print_command c.args.system.now).reads (g.S.Store.contents c.args.store.now) c.in-Err.fault _ _ c.give_up.result (spared refl refl refl) (λ o e. (c.in-Err.ensures.found (refused_read Ast c.in-Err.fault o e) t, tt)) c.give_up.ensures.closes

@@ -1,10 +1,14 @@
-use Rattle.std.proofs.Common.{ℕ, List, Err, Some, ap, refl, rules}
+use Rattle.std.proofs.Common.{◌≡◌, Err, List, [], ap, refl, rules, ℕ}
 use Rattle.tap_base.specs.declared.system.System.{System}
-use Rattle.tapc_core.specs.Output.{OfWorld, files_named}
-use Rattle.tapc_core.specs.Words.{world}
-use Rattle.tapc_core.proofs.Found.{given_up_found, played_found, refused_read}
+use Rattle.tapc_core.specs.commands.World.{OfWorld, files_named, world_command}
+use Rattle.tapc_core.specs.declared.status.Status.{Status}
+use Rattle.tapc_core.specs.declared.status.Status.TheVariants.{ReadFault, WriteFault, NoMemory}
+use Rattle.tapc_core.proofs.Found.{AreSpared, given_up_found, played_found, refused_read}
 use Rattle.tapc_core.proofs.Outputs.{gives_up, refused_memory}
 use Rattle.tapc_core.proofs.program.world.Goals as goal
+
+spared : {reads : Status → List (List ℕ)} → reads WriteFault ≡ [] → reads ReadFault ≡ [] → reads NoMemory ≡ [] → AreSpared reads
+spared a b c = record { unwritten = a; unread = b; no_memory = c }
 
 pub returns-in-Ok-clause-writes : goal.returns-in-Ok-clause-writes
 returns-in-Ok-clause-writes g c = c.play.ensures.writes _ (search rules)
@@ -20,4 +24,4 @@ returns-in-Ok-clause-found g c = λ t.
 
 pub returns-in-Err-clause-found : goal.returns-in-Err-clause-found
 returns-in-Err-clause-found g c = λ t.
-    given_up_found (Some (world c.args.system.now c.args.schedule.now)) (g.S.Store.contents c.args.store.now) c.in-Err.fault _ _ c.give_up.result (λ o e. (c.in-Err.ensures.found (refused_read (System × List ℕ) c.in-Err.fault o e) t, tt)) c.give_up.ensures.closes
+    given_up_found (world_command c.args.system.now c.args.schedule.now).reads (g.S.Store.contents c.args.store.now) c.in-Err.fault _ _ c.give_up.result (spared refl refl refl) (λ o e. (c.in-Err.ensures.found (refused_read (System × List ℕ) c.in-Err.fault o e) t, tt)) c.give_up.ensures.closes

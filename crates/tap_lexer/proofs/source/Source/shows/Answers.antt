@@ -1,7 +1,7 @@
 use Rattle.std.proofs.Common.{rules, ◌≡◌, sym, ◌∙◌}
 use denote.Enum.Bare.{same_true}
 use Rattle.tap_base.specs.contracts.token.Sign.{the_type}
-use Rattle.tap_base.specs.Lexeme.{lexeme}
+use Rattle.tap_lexer.specs.Lexeme.{lexeme}
 use Rattle.tap_lexer.proofs.source.Source.shows.Goals as goal
 
 pub sign-requires : goal.sign-requires

@@ -1,7 +1,7 @@
 use Rattle.std.proofs.Common.{◌≡◌, ◌++◌, drop}
 use Rattle.std.specs.Option.{option_map}
-use Rattle.tap_base.specs.SmallNames.{action_of, each}
-use Rattle.tap_small.specs.Scopes.{scope_of}
+use Rattle.tap_small.specs.SmallNames.{action_of, each}
+use Rattle.tap_small.specs.inner.Scopes.{scope_of}
 use Rattle.tap_small.proofs.names.actions.actions_named.Given as goal
 
 abbrev pub invariant-actions : goal.invariant-actions

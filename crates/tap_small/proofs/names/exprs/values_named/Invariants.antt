@@ -1,7 +1,7 @@
 use Rattle.std.proofs.Common.{◌≡◌, ◌++◌, drop}
 use Rattle.std.specs.Option.{option_map}
-use Rattle.tap_base.specs.SmallNames.{atom_of, each}
-use Rattle.tap_small.specs.Scopes.{scope_of}
+use Rattle.tap_small.specs.SmallNames.{atom_of, each}
+use Rattle.tap_small.specs.inner.Scopes.{scope_of}
 use Rattle.tap_small.proofs.names.exprs.values_named.Given as goal
 
 abbrev pub invariant-values : goal.invariant-values

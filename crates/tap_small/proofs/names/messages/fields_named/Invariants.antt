@@ -1,7 +1,7 @@
 use Rattle.std.proofs.Common.{◌≡◌, ◌++◌, drop, ◌<◌, ◌^◌}
 use Rattle.std.specs.Option.{option_map}
 use Rattle.tap_base.specs.Lists.{Each}
-use Rattle.tap_base.specs.SmallNames.{each, field_of}
+use Rattle.tap_small.specs.SmallNames.{each, field_of}
 use Rattle.std.specs.Prelude.{unsigned_abs}
 use Rattle.tap_small.proofs.names.messages.fields_named.Given as goal
 

@@ -1,7 +1,7 @@
 use Rattle.std.proofs.Common.{◌≡◌, ◌++◌, drop}
 use Rattle.std.specs.Option.{option_map}
 use Rattle.tap_base.specs.Lists.{Each}
-use Rattle.tap_base.specs.SmallNames.{ast_names, each, process_of}
+use Rattle.tap_small.specs.SmallNames.{ast_names, each, process_of}
 use Rattle.tap_small.specs.Few.{HasFewVars}
 use Rattle.tap_small.proofs.names.processes.processes_named.Given as goal
 

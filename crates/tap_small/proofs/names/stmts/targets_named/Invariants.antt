@@ -1,6 +1,6 @@
 use Rattle.std.proofs.Common.{◌≡◌, ◌++◌, drop}
 use Rattle.std.specs.Option.{option_map}
-use Rattle.tap_base.specs.SmallNames.{each, target_of}
+use Rattle.tap_small.specs.SmallNames.{each, target_of}
 use Rattle.tap_small.proofs.names.stmts.targets_named.Given as goal
 
 abbrev pub invariant-targets : goal.invariant-targets

@@ -1,6 +1,6 @@
 use Rattle.std.proofs.Common.{◌≡◌, ◌++◌, drop, length}
 use Rattle.std.specs.Option.{option_map}
-use Rattle.tap_base.specs.SmallNames.{each, var_of}
+use Rattle.tap_small.specs.SmallNames.{each, var_of}
 use Rattle.tap_small.proofs.names.vars.vars_named.Given as goal
 
 abbrev pub invariant-vars : goal.invariant-vars

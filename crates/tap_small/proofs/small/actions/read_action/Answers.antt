@@ -1,10 +1,11 @@
 use Rattle.std.proofs.Common.{◌+◌}
-use Rattle.tap_base.specs.SmallGrammar.{Separated, IsGuard, IsStmt, IsAction}
-use Rattle.tap_small.specs.Ends.{EndsBody}
-use Rattle.tap_lexer.specs.Reading.{Lacks}
+use Rattle.tap_lexer.specs.Rows.{Separated}
+use Rattle.tap_small.specs.SmallGrammar.{IsGuard, IsStmt, IsAction}
+use Rattle.tap_small.specs.inner.Ends.{EndsBody}
+use Rattle.tap_lexer.specs.inner.Reading.{Lacks}
 use Rattle.tap_small.proofs.Readings.{refused}
 use Rattle.tap_small.proofs.Actions.{action_no_guard, action_no_arrow, action_no_body, action_found}
-use Rattle.tap_base.specs.Lexeme.{lexeme, lexemes}
+use Rattle.tap_lexer.specs.Lexeme.{lexeme, lexemes}
 use Rattle.tap_base.specs.declared.token.Sign.TheVariants as sign
 use Rattle.tap_small.proofs.small.actions.read_action.Goals as goal
 

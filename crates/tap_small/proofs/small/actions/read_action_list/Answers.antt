@@ -1,10 +1,11 @@
 use Rattle.std.proofs.Common.{◌+◌, ◌∙◌, ap, [], ◌∷◌, ◌++◌}
-use Rattle.tap_base.specs.SmallGrammar.{Separated, IsAction}
-use Rattle.tap_small.specs.Ends.{EndsBody, EndsActions}
+use Rattle.tap_lexer.specs.Rows.{Separated}
+use Rattle.tap_small.specs.SmallGrammar.{IsAction}
+use Rattle.tap_small.specs.inner.Ends.{EndsBody, EndsActions}
 use Rattle.tap_small.proofs.Readings.{refused}
 use Rattle.tap_small.proofs.SeparatedLists.{list_first, list_more, list_found, list_none, list_no_more}
 use Rattle.tap_small.proofs.Actions.{box_passes}
-use Rattle.tap_base.specs.Lexeme.{lexeme, lexemes}
+use Rattle.tap_lexer.specs.Lexeme.{lexeme, lexemes}
 use Rattle.tap_base.specs.declared.token.Sign.TheVariants as sign
 use Rattle.tap_small.proofs.small.actions.read_action_list.Goals as goal
 

@@ -1,7 +1,7 @@
 use Rattle.std.proofs.Common.{arith}
 use Rattle.std.proofs.lemmas.Int.{ints, to_z-of_z}
 use Rattle.tap_small.proofs.Atoms.{atom_no_field, atom_number, atom_name, atom_part}
-use Rattle.tap_base.specs.Lexeme.{lexeme, lexemes}
+use Rattle.tap_lexer.specs.Lexeme.{lexeme, lexemes}
 use Rattle.tap_small.proofs.small.atoms.read_atom.Goals as goal
 
 pub returns-in-Some : goal.returns-in-Some

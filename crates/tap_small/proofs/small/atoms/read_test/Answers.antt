@@ -1,9 +1,9 @@
 use Rattle.std.proofs.Common.{◌+◌}
-use Rattle.tap_base.specs.SmallGrammar.{IsAtom, IsTest}
-use Rattle.tap_lexer.specs.Reading.{Lacks}
+use Rattle.tap_small.specs.SmallGrammar.{IsAtom, IsTest}
+use Rattle.tap_lexer.specs.inner.Reading.{Lacks}
 use Rattle.tap_small.proofs.Readings.{refused}
 use Rattle.tap_small.proofs.Atoms.{test_no_equal, test_no_right, test_found}
-use Rattle.tap_base.specs.Lexeme.{lexeme, lexemes}
+use Rattle.tap_lexer.specs.Lexeme.{lexeme, lexemes}
 use Rattle.tap_base.specs.declared.token.Sign.TheVariants as sign
 use Rattle.tap_small.proofs.small.atoms.read_test.Goals as goal
 

@@ -1,9 +1,9 @@
 use Rattle.std.proofs.Common.{refl}
-use Rattle.tap_base.specs.SmallGrammar.{IsTest, IsGuard}
-use Rattle.tap_lexer.specs.Reading.{Lacks}
+use Rattle.tap_small.specs.SmallGrammar.{IsTest, IsGuard}
+use Rattle.tap_lexer.specs.inner.Reading.{Lacks}
 use Rattle.tap_small.proofs.Readings.{refused}
 use Rattle.tap_small.proofs.Guards.{guard_no_test, guard_local, guard_no_sign, guard_received, same_receive}
-use Rattle.tap_base.specs.Lexeme.{lexeme, lexemes}
+use Rattle.tap_lexer.specs.Lexeme.{lexeme, lexemes}
 use Rattle.tap_base.specs.declared.token.Sign.TheVariants as sign
 use Rattle.tap_small.proofs.small.guards.read_guard.Goals as goal
 

@@ -1,7 +1,7 @@
 use Rattle.std.proofs.Common.{refl, arith}
 use Rattle.std.proofs.lemmas.Int.{ints, to_z-of_z}
 use Rattle.tap_small.proofs.Messages.{field_no_sign, field_found}
-use Rattle.tap_base.specs.Lexeme.{lexeme, lexemes}
+use Rattle.tap_lexer.specs.Lexeme.{lexeme, lexemes}
 use Rattle.tap_base.specs.declared.token.Sign.TheVariants as sign
 use Rattle.tap_small.proofs.small.messages.read_field.Goals as goal
 

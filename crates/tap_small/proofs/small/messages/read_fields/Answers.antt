@@ -1,9 +1,10 @@
 use Rattle.std.proofs.Common.{◌+◌, ◌∙◌, ap, [], ◌∷◌, ◌++◌}
-use Rattle.tap_base.specs.SmallGrammar.{Separated, IsField}
-use Rattle.tap_lexer.specs.Reading.{Lacks, Free}
+use Rattle.tap_lexer.specs.Rows.{Separated}
+use Rattle.tap_small.specs.SmallGrammar.{IsField}
+use Rattle.tap_lexer.specs.inner.Reading.{Lacks, Free}
 use Rattle.tap_small.proofs.Readings.{refused}
 use Rattle.tap_small.proofs.SeparatedLists.{list_first, list_more, list_found, list_none, list_no_more}
-use Rattle.tap_base.specs.Lexeme.{lexeme, lexemes}
+use Rattle.tap_lexer.specs.Lexeme.{lexeme, lexemes}
 use Rattle.tap_base.specs.declared.token.Sign.TheVariants as sign
 use Rattle.tap_small.proofs.small.messages.read_fields.Goals as goal
 

@@ -1,9 +1,10 @@
 use Rattle.std.proofs.Common.{◌+◌, ap, refl}
-use Rattle.tap_base.specs.SmallGrammar.{Separated, IsField, IsMessage}
-use Rattle.tap_lexer.specs.Reading.{Lacks, Free}
+use Rattle.tap_lexer.specs.Rows.{Separated}
+use Rattle.tap_small.specs.SmallGrammar.{IsField, IsMessage}
+use Rattle.tap_lexer.specs.inner.Reading.{Lacks, Free}
 use Rattle.tap_small.proofs.Readings.{refused}
 use Rattle.tap_small.proofs.Messages.{message_no_sign, message_no_fields, message_no_end, message_found}
-use Rattle.tap_base.specs.Lexeme.{lexeme, lexemes}
+use Rattle.tap_lexer.specs.Lexeme.{lexeme, lexemes}
 use Rattle.tap_base.specs.declared.token.Sign.TheVariants as sign
 use Rattle.tap_small.proofs.small.messages.read_message.Goals as goal
 

@@ -1,8 +1,9 @@
-use Rattle.tap_base.specs.SmallGrammar.{Rows, IsMessage}
-use Rattle.tap_lexer.specs.Reading.{Lacks, Free}
+use Rattle.tap_lexer.specs.Rows.{Rows}
+use Rattle.tap_small.specs.SmallGrammar.{IsMessage}
+use Rattle.tap_lexer.specs.inner.Reading.{Lacks, Free}
 use Rattle.tap_small.proofs.Readings.{refused}
 use Rattle.tap_small.proofs.Trees.{messages_start, messages_more, messages_found, messages_no_more}
-use Rattle.tap_base.specs.Lexeme.{lexeme, lexemes}
+use Rattle.tap_lexer.specs.Lexeme.{lexeme, lexemes}
 use Rattle.tap_base.specs.declared.token.Sign.TheVariants as sign
 use Rattle.tap_small.proofs.small.messages.read_messages.Goals as goal
 

@@ -1,9 +1,9 @@
-use Rattle.std.proofs.Common.{◌+◌, refl}
-use Rattle.tap_base.specs.SmallGrammar.{IsActions, IsVars, IsProcess}
-use Rattle.tap_lexer.specs.Reading.{Free, Closed}
+use Rattle.std.proofs.Common.{◌+◌}
+use Rattle.tap_small.specs.SmallGrammar.{IsActions, IsVars, IsProcess}
+use Rattle.tap_lexer.specs.inner.Reading.{Free, Closed}
 use Rattle.tap_small.proofs.Readings.{refused}
-use Rattle.tap_small.proofs.Processes.{process_no_sign, process_no_vars, process_no_actions, process_found, same_process}
-use Rattle.tap_base.specs.Lexeme.{lexeme, lexemes}
+use Rattle.tap_small.proofs.Processes.{process_no_vars, process_no_actions, process_found, same_process}
+use Rattle.tap_lexer.specs.Lexeme.{lexeme, lexemes}
 use Rattle.tap_base.specs.declared.token.Sign.TheVariants as sign
 use Rattle.tap_small.proofs.small.processes.read_process.Goals as goal
 

@@ -1,7 +1,7 @@
 use Rattle.std.proofs.Common.{◌∙◌, ap, [], ◌∷◌, ◌++◌, arith}
 use Rattle.std.proofs.lemmas.List.{length-map}
 use Rattle.tap_small.proofs.Trees.{processes_first, processes_more, processes_found, refused_first, refused_more}
-use Rattle.tap_base.specs.Lexeme.{lexeme, lexemes}
+use Rattle.tap_lexer.specs.Lexeme.{lexeme, lexemes}
 use Rattle.tap_small.proofs.small.processes.read_processes.Goals as goal
 
 pub processes-init : goal.processes-init

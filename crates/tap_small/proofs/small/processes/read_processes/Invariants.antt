@@ -1,5 +1,5 @@
 use Rattle.std.proofs.Common.{◌-◌, length}
-use Rattle.tap_base.specs.Lexeme.{lexemes}
+use Rattle.tap_lexer.specs.Lexeme.{lexemes}
 use Rattle.tap_small.proofs.Trees.{ProcessesRead}
 use Rattle.tap_small.proofs.small.processes.read_processes.Given as goal
 

@@ -1,9 +1,10 @@
 use Rattle.std.proofs.Common.{◌+◌, refl}
-use Rattle.tap_base.specs.SmallGrammar.{SomeSeparated, IsAtom, IsStmt}
-use Rattle.tap_lexer.specs.Reading.{Lacks, Free, Closed}
+use Rattle.tap_lexer.specs.Rows.{SomeSeparated}
+use Rattle.tap_small.specs.SmallGrammar.{IsAtom, IsStmt}
+use Rattle.tap_lexer.specs.inner.Reading.{Lacks, Free, Closed}
 use Rattle.tap_small.proofs.Readings.{refused}
 use Rattle.tap_small.proofs.Stmts.{send_no_sign, send_no_values, send_no_to, send_no_peer, send_found, same_send}
-use Rattle.tap_base.specs.Lexeme.{lexeme, lexemes}
+use Rattle.tap_lexer.specs.Lexeme.{lexeme, lexemes}
 use Rattle.tap_base.specs.declared.token.Sign.TheVariants as sign
 use Rattle.tap_small.proofs.small.sends.read_send.Goals as goal
 

@@ -1,11 +1,12 @@
 use Rattle.std.proofs.Common.{◌+◌, ◌∙◌, ap, [], ◌∷◌, ◌++◌}
-use Rattle.tap_base.specs.SmallGrammar.{Separated, IsAtom}
-use Rattle.tap_small.specs.Ends.{EndsValues}
-use Rattle.tap_lexer.specs.Reading.{Lacks}
+use Rattle.tap_lexer.specs.Rows.{Separated}
+use Rattle.tap_small.specs.SmallGrammar.{IsAtom}
+use Rattle.tap_small.specs.inner.Ends.{EndsValues}
+use Rattle.tap_lexer.specs.inner.Reading.{Lacks}
 use Rattle.tap_small.proofs.Readings.{refused}
 use Rattle.tap_small.proofs.SeparatedLists.{list_first, list_more, list_found, list_none, list_no_more}
 use Rattle.tap_small.proofs.Sends.{comma_passes}
-use Rattle.tap_base.specs.Lexeme.{lexeme, lexemes}
+use Rattle.tap_lexer.specs.Lexeme.{lexeme, lexemes}
 use Rattle.tap_base.specs.declared.token.Sign.TheVariants as sign
 use Rattle.tap_small.proofs.small.sends.read_value_list.Goals as goal
 

@@ -1,8 +1,8 @@
 use Rattle.std.proofs.Common.{◌-◌, length}
 use Rattle.tap_base.specs.declared.token.Sign.TheVariants as sign
-use Rattle.tap_base.specs.Lexeme.{lexemes}
-use Rattle.tap_base.specs.SmallGrammar.{IsAtom}
-use Rattle.tap_small.specs.Ends.{EndsValues}
+use Rattle.tap_lexer.specs.Lexeme.{lexemes}
+use Rattle.tap_small.specs.SmallGrammar.{IsAtom}
+use Rattle.tap_small.specs.inner.Ends.{EndsValues}
 use Rattle.tap_small.proofs.SeparatedLists.{ListRead}
 use Rattle.tap_small.proofs.small.sends.read_value_list.Given as goal
 

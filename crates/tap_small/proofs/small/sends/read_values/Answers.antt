@@ -1,10 +1,11 @@
-use Rattle.tap_base.specs.SmallGrammar.{Separated, SomeSeparated, IsAtom}
-use Rattle.tap_small.specs.Ends.{EndsValues}
-use Rattle.tap_lexer.specs.Reading.{Free, Closed}
+use Rattle.tap_lexer.specs.Rows.{Separated, SomeSeparated}
+use Rattle.tap_small.specs.SmallGrammar.{IsAtom}
+use Rattle.tap_small.specs.inner.Ends.{EndsValues}
+use Rattle.tap_lexer.specs.inner.Reading.{Free, Closed}
 use Rattle.tap_small.proofs.Readings.{refused}
 use Rattle.tap_small.proofs.Closings.{no_items, items_no_list, items_no_end, items_found}
 use Rattle.tap_small.proofs.Sends.{one_value_list, close_ends, values_first}
-use Rattle.tap_base.specs.Lexeme.{lexeme, lexemes}
+use Rattle.tap_lexer.specs.Lexeme.{lexeme, lexemes}
 use Rattle.tap_base.specs.declared.token.Sign.TheVariants as sign
 use Rattle.tap_small.proofs.small.sends.read_values.Goals as goal
 

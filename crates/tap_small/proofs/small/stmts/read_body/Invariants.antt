@@ -1,8 +1,8 @@
 use Rattle.std.proofs.Common.{◌-◌, length}
 use Rattle.tap_base.specs.declared.token.Sign.TheVariants as sign
-use Rattle.tap_base.specs.Lexeme.{lexemes}
-use Rattle.tap_base.specs.SmallGrammar.{IsStmt}
-use Rattle.tap_small.specs.Ends.{EndsBody}
+use Rattle.tap_lexer.specs.Lexeme.{lexemes}
+use Rattle.tap_small.specs.SmallGrammar.{IsStmt}
+use Rattle.tap_small.specs.inner.Ends.{EndsBody}
 use Rattle.tap_small.proofs.SeparatedLists.{ListRead}
 use Rattle.tap_small.proofs.small.stmts.read_body.Given as goal
 

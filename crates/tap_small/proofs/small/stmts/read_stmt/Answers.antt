@@ -1,10 +1,10 @@
 use Rattle.std.proofs.Common.{◌+◌, ◌∙◌, ap, [], ◌∷◌, None}
 use Rattle.tap_base.specs.declared.ast.AstStmt.TheVariants as stmt
-use Rattle.tap_base.specs.SmallGrammar.{IsAtom, IsStmt}
-use Rattle.tap_lexer.specs.Reading.{Lacks}
+use Rattle.tap_small.specs.SmallGrammar.{IsAtom, IsStmt}
+use Rattle.tap_lexer.specs.inner.Reading.{Lacks}
 use Rattle.tap_small.proofs.Readings.{refused}
 use Rattle.tap_small.proofs.Stmts.{stmt_skip, stmt_no_becomes, stmt_no_value, stmt_assign}
-use Rattle.tap_base.specs.Lexeme.{lexeme, lexemes}
+use Rattle.tap_lexer.specs.Lexeme.{lexeme, lexemes}
 use Rattle.tap_base.specs.declared.token.Sign.TheVariants as sign
 use Rattle.tap_small.proofs.small.stmts.read_stmt.Goals as goal
 

@@ -1,8 +1,8 @@
 use Rattle.std.proofs.Common.{◌-◌, length}
 use Rattle.tap_base.specs.declared.token.Sign.TheVariants as sign
-use Rattle.tap_base.specs.Lexeme.{lexemes}
-use Rattle.tap_base.specs.SmallGrammar.{IsVar}
-use Rattle.tap_lexer.specs.Reading.{Lacks}
+use Rattle.tap_lexer.specs.Lexeme.{lexemes}
+use Rattle.tap_small.specs.SmallGrammar.{IsVar}
+use Rattle.tap_lexer.specs.inner.Reading.{Lacks}
 use Rattle.tap_small.proofs.SeparatedLists.{ListRead}
 use Rattle.tap_small.proofs.small.vars.read_var_list.Given as goal
 

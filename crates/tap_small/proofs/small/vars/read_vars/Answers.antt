@@ -1,9 +1,10 @@
 use Rattle.std.proofs.Common.{◌+◌}
-use Rattle.tap_base.specs.SmallGrammar.{Separated, IsVar, IsVars}
-use Rattle.tap_lexer.specs.Reading.{Lacks, Free, Closed}
+use Rattle.tap_lexer.specs.Rows.{Separated}
+use Rattle.tap_small.specs.SmallGrammar.{IsVar, IsVars}
+use Rattle.tap_lexer.specs.inner.Reading.{Lacks, Free, Closed}
 use Rattle.tap_small.proofs.Readings.{refused}
 use Rattle.tap_small.proofs.Vars.{no_vars, vars_no_list, vars_no_begin, vars_found}
-use Rattle.tap_base.specs.Lexeme.{lexeme, lexemes}
+use Rattle.tap_lexer.specs.Lexeme.{lexeme, lexemes}
 use Rattle.tap_base.specs.declared.token.Sign.TheVariants as sign
 use Rattle.tap_small.proofs.small.vars.read_vars.Goals as goal
 

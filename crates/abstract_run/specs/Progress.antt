@@ -1,0 +1,54 @@
+-- How a run goes on from a state.
+use Rattle.std.specs.Prelude.{◌≡◌, ℕ, ◌+◌, ◌≤◌, true, [], length, List, ℤ, None, Some, slice_get, IsSome}
+use Rattle.tap_base.specs.Lists.{Each}
+use Rattle.abstract_run.specs.declared.label.Label.{Label}
+use Rattle.abstract_run.specs.declared.label.Label.TheVariants as label
+use Rattle.abstract_run.specs.declared.state.Channel.{Channel}
+use Rattle.tap_exec.specs.declared.running.Outgoing.{Outgoing}
+use Rattle.tap_exec.specs.declared.running.Running.{Running}
+use Rattle.abstract_run.specs.declared.state.State.{State}
+use Rattle.abstract_run.specs.Calm.{IsCalm}
+use Rattle.abstract_run.specs.CellCount.{cells_in}
+use Rattle.abstract_run.specs.Channels.{most_cells}
+use Rattle.abstract_run.specs.Enabled.{is_enabled}
+use Rattle.abstract_run.specs.Fits.{Fits}
+use Rattle.abstract_run.specs.Messages.{most_sends}
+use Rattle.abstract_run.specs.Run.{IsFirst}
+use Rattle.abstract_run.specs.Safe.{BodiesKeepRanges, IsBeginning}
+use Rattle.abstract_run.specs.Semantics.{Semantics, ActionSemantics, ProcessSemantics}
+use Rattle.abstract_run.specs.Step.{is_live, step}
+
+-- the label is possible
+pub record IsPossible (semantics : Semantics) (s : State) (l : Label) : Type 0 where
+  pub next : State
+  pub sends : List Outgoing
+  pub is : step semantics s l ≡ Some (next, sends)
+
+-- room for as many cells as one action can send
+abbrev pub HasRoom : Channel → Type 0
+HasRoom c = length c.cells + most_sends ≤ most_cells
+
+-- Each body comes to its end without a choice, whatever it fittingly begins with.
+abbrev pub NeedsNoChoice : Semantics → Type 0
+NeedsNoChoice semantics =
+    (p a : ℕ) (process : ProcessSemantics) (action : ActionSemantics) → slice_get semantics.processes p ≡ Some process → slice_get process.actions a ≡ Some action
+    → (inputs received : List ℤ) (before : Running) → IsBeginning semantics process action inputs received before → before.choices ≡ [] → IsSome (action.body inputs received before)
+
+-- Where bodies keep ranges and need no choice, in a fitting state with nothing falling an enabled action of a process
+-- that is not down has a step, where each channel has room for what it may send.
+abbrev pub ActionsGoOn : Type 0
+ActionsGoOn = (semantics : Semantics) (s : State) (p a : ℕ) → BodiesKeepRanges semantics → NeedsNoChoice semantics → Fits semantics s → s.falling ≡ None → is_live s p ≡ true
+    → Each HasRoom s.channels → is_enabled semantics s p a ≡ true → IsPossible semantics s (label.Act p a [])
+
+-- Every reading is possible. So is every enabled action, without a choice. Where none is enabled, so is an idle turn,
+-- and only there.
+pub record CanTurn (semantics : Semantics) (s : State) (p actions : ℕ) : Type 0 where
+  pub reads : (c : ℕ) → IsPossible semantics s (label.Tick p c)
+  pub acts : (a : ℕ) → is_enabled semantics s p a ≡ true → IsPossible semantics s (label.Act p a [])
+  pub idles : IsFirst semantics s p actions → IsPossible semantics s (label.Idle p)
+  pub busy : (a : ℕ) → is_enabled semantics s p a ≡ true → step semantics s (label.Idle p) ≡ None
+
+-- There, in a calm state each process has a turn, while the channels are far from full.
+abbrev pub TurnsGoOn : Type 0
+TurnsGoOn = (semantics : Semantics) (s : State) (p : ℕ) (process : ProcessSemantics) → BodiesKeepRanges semantics → NeedsNoChoice semantics → Fits semantics s → IsCalm s
+    → cells_in s + most_sends ≤ most_cells → slice_get semantics.processes p ≡ Some process → CanTurn semantics s p (length process.actions)

@@ -1,0 +1,4 @@
+pub mod Among
+pub mod ComputedSemantics
+pub mod Does
+pub mod Packing

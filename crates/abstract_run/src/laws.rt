@@ -1,0 +1,28 @@
+//! Laws of steps: what decides them, what they keep, and where they go on.
+
+ghost use Rattle.abstract_run.specs.Kept.{StepsKeep};
+ghost use Rattle.abstract_run.specs.Progress.{ActionsGoOn, TurnsGoOn};
+ghost use Rattle.abstract_run.specs.Safe.{SameSteps};
+
+/// Two records that say the same have the same steps from each fitting state.
+pub fn same_steps()
+    ensures { SameSteps }
+{}
+
+/// Where bodies keep ranges, a step from a fitting state leaves one, what it sends fits, and there
+/// are as many cells as before, less what its label takes out, and those that were sent.
+pub fn steps_keep_fitting()
+    ensures { StepsKeep }
+{}
+
+/// Where bodies keep ranges and need no choice, in a fitting state with nothing falling an enabled
+/// action of a process that is not down has a step, where each channel has room for what it may send.
+pub fn actions_go_on()
+    ensures { ActionsGoOn }
+{}
+
+/// There, in a calm state each process can take any reading, and then run any enabled action, or
+/// where there is none have an idle turn, while the channels are far from full.
+pub fn turns_go_on()
+    ensures { TurnsGoOn }
+{}

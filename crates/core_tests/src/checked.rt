@@ -1,0 +1,226 @@
+//! What `check`, `world` and `print` answer to a text: it is accepted or refused.
+
+use super::cases::{CALM, CHECK, Case, PRINT, answer, check};
+use super::texts::{ALTERNATING_BIT, COUNTER, CUT, PING, TRI};
+use std::test::Fail;
+use tapc_core::Status;
+
+/// A text: its name, itself, the status, and the line.
+type Row = (&'static str, &'static [u8], Status, &'static [u8]);
+
+const ACCEPTED: &[u8] = b"accepted\n";
+
+/// What is written of a text of the whole language that is none of the small one, whatever it lacks.
+const OUTSIDE: &[u8] = b"refused S0 1:1\n";
+
+/// All of them.
+fn rows() -> [Row; 29] {
+    [
+        ("a counter", COUNTER, Status::Done, ACCEPTED),
+        ("a datagram", PING, Status::Done, ACCEPTED),
+        (
+            "a system with a send to be cut",
+            CUT,
+            Status::Done,
+            ACCEPTED,
+        ),
+        ("three actions", TRI, Status::Refused, OUTSIDE),
+        (
+            "the alternating bit protocol",
+            ALTERNATING_BIT,
+            Status::Refused,
+            OUTSIDE,
+        ),
+        (
+            "a parenthesis in a guard",
+            b"process a var k : 0..1 begin (k) = 0 -> skip end",
+            Status::Refused,
+            OUTSIDE,
+        ),
+        (
+            "a variable that is not declared",
+            b"process a begin x = 0 -> skip end",
+            Status::Refused,
+            OUTSIDE,
+        ),
+        (
+            "a process that is declared twice",
+            b"\n\n  process a begin end process a begin end",
+            Status::Refused,
+            OUTSIDE,
+        ),
+        (
+            "a byte outside of the alphabet",
+            b"process a begin \x01 end",
+            Status::Refused,
+            b"refused L1 1:17\n",
+        ),
+        (
+            "a dollar sign at the end",
+            b"process a\nbegin\n end $",
+            Status::Refused,
+            b"refused L1 3:6\n",
+        ),
+        (
+            "a bell in a comment",
+            b"process a begin end # \x07",
+            Status::Refused,
+            b"refused L1 1:23\n",
+        ),
+        (
+            "a number before an exclamation mark",
+            b"9223372036854775808 !",
+            Status::Refused,
+            b"refused L2 1:1\n",
+        ),
+        (
+            "a number behind an exclamation mark",
+            b"! 9223372036854775808",
+            Status::Refused,
+            b"refused L1 1:1\n",
+        ),
+        (
+            "a number behind a zero",
+            b"process a begin x = 09223372036854775808 -> skip end",
+            Status::Refused,
+            b"refused L2 1:21\n",
+        ),
+        (
+            "the largest number before a dollar sign",
+            b"9223372036854775807 $",
+            Status::Refused,
+            b"refused L1 1:21\n",
+        ),
+        ("nothing", b"", Status::Refused, b"refused S1 1:1\n"),
+        (
+            "blanks and a comment",
+            b" \n # nothing\n",
+            Status::Refused,
+            b"refused S1 1:1\n",
+        ),
+        (
+            "an assignment without a value",
+            b"process a begin true -> x := end",
+            Status::Refused,
+            b"refused S1 1:30\n",
+        ),
+        (
+            "a process without an end",
+            b"process a begin",
+            Status::Refused,
+            b"refused S1 1:16\n",
+        ),
+        (
+            "a guard without an arrow",
+            b"process a\nbegin\n  x = 0 skip\nend\n",
+            Status::Refused,
+            b"refused S1 3:9\n",
+        ),
+        (
+            "messages without a process",
+            b"message m begin f : 8 bits end",
+            Status::Refused,
+            b"refused S1 1:31\n",
+        ),
+        (
+            "two ends",
+            b"process a begin end end",
+            Status::Refused,
+            b"refused S1 1:21\n",
+        ),
+        (
+            "a box without an action",
+            b"process a begin x = 1 -> skip [] end",
+            Status::Refused,
+            b"refused S1 1:34\n",
+        ),
+        (
+            "a bracket at depth 33",
+            b"process a begin ((((((((((((((((((((((((((((((((( 1 = 1 -> skip end",
+            Status::Refused,
+            b"refused S2 1:49\n",
+        ),
+        (
+            "a bracket at depth 33 behind another fault",
+            b"process process a begin (((((((((((((((((((((((((((((((((",
+            Status::Refused,
+            b"refused S2 1:57\n",
+        ),
+        (
+            "a bracket at depth 32",
+            b"process a begin ((((((((((((((((((((((((((((((((1)))))))))))))))))))))))))))))))) = 1 -> skip end",
+            Status::Refused,
+            OUTSIDE,
+        ),
+        (
+            "an expression of 201 nodes",
+            b"process a begin 1+1+1+1+1+1+1+1+1+1+1+1+1+1+1+1+1+1+1+1+1+1+1+1+1+1+1+1+1+1+1+1+1+1+1+1+1+1+1+1+1+1+1+1+1+1+1+1+1+1+1+1+1+1+1+1+1+1+1+1+1+1+1+1+1+1+1+1+1+1+1+1+1+1+1+1+1+1+1+1+1+1+1+1+1+1+1+1+1+1+1+1+1+1+1+1+1+1+1+1+1 -> skip end",
+            Status::Refused,
+            b"refused S3 1:17\n",
+        ),
+        (
+            "an expression of 201 nodes before another fault",
+            b"process a begin 1+1+1+1+1+1+1+1+1+1+1+1+1+1+1+1+1+1+1+1+1+1+1+1+1+1+1+1+1+1+1+1+1+1+1+1+1+1+1+1+1+1+1+1+1+1+1+1+1+1+1+1+1+1+1+1+1+1+1+1+1+1+1+1+1+1+1+1+1+1+1+1+1+1+1+1+1+1+1+1+1+1+1+1+1+1+1+1+1+1+1+1+1+1+1+1+1+1+1+1+1 end",
+            Status::Refused,
+            b"refused S1 1:219\n",
+        ),
+        (
+            "an expression of 200 nodes",
+            b"process a begin -1+1+1+1+1+1+1+1+1+1+1+1+1+1+1+1+1+1+1+1+1+1+1+1+1+1+1+1+1+1+1+1+1+1+1+1+1+1+1+1+1+1+1+1+1+1+1+1+1+1+1+1+1+1+1+1+1+1+1+1+1+1+1+1+1+1+1+1+1+1+1+1+1+1+1+1+1+1+1+1+1+1+1+1+1+1+1+1+1+1+1+1+1+1+1+1+1+1+1+1 -> skip end",
+            Status::Refused,
+            OUTSIDE,
+        ),
+    ]
+}
+
+/// What a command is to answer to a text.
+fn case_of<'a>(row: &Row, words: &'a [&'a str]) -> Case<'a> {
+    let (name, system, status, lines) = *row;
+    Case {
+        name,
+        words,
+        system,
+        status,
+        lines,
+        ..CALM
+    }
+}
+
+#[test]
+fn a_text_is_checked(rt: HostRuntime) -> Result<(), Fail> {
+    for row in &rows() {
+        check(&rt, rt.alloc(), &case_of(row, CHECK))?;
+    }
+    Ok(())
+}
+
+/// The schedule of a text that is refused is not looked for.
+#[test]
+fn the_world_refuses_the_same(rt: HostRuntime) -> Result<(), Fail> {
+    for row in &rows() {
+        if row.2 == Status::Refused {
+            check(
+                &rt,
+                rt.alloc(),
+                &case_of(row, &["world", "s", "no such schedule"]),
+            )?;
+        }
+    }
+    Ok(())
+}
+
+/// Only what keeps a text from being read as a tree is told: a text that is only outside the small language is
+/// printed.
+#[test]
+fn a_text_that_is_no_tree_is_not_printed(rt: HostRuntime) -> Result<(), Fail> {
+    for row in &rows() {
+        let case = case_of(row, PRINT);
+        if case.lines == ACCEPTED || case.lines == OUTSIDE {
+            let (status, _out) = answer(rt.alloc(), &case)?;
+            assert_eq!(rt; status, Status::Done, "{}", case.name);
+        } else {
+            check(&rt, rt.alloc(), &case)?;
+        }
+    }
+    Ok(())
+}

@@ -1,0 +1,340 @@
+//! Runs of `world`: a system, a schedule, and what must come of them.
+
+use super::cases::{CALM, Case, WORLD, check};
+use super::texts::{ALIKE, APART, CHAIN, COUNTER, EITHER, PING, WIDE};
+use std::test::Fail;
+use tapc_core::Status;
+
+/// A run: its name, the system, the schedule, the status, and the lines.
+type Row = (
+    &'static str,
+    &'static [u8],
+    &'static [u8],
+    Status,
+    &'static [u8],
+);
+
+/// What is written of a text of the whole language that is none of the small one.
+const OUTSIDE: &[u8] = b"refused S0 1:1\n";
+
+/// All of them.
+fn rows() -> [Row; 39] {
+    [
+        // A process counts once, and is idle then.
+        (
+            "counts",
+            COUNTER,
+            b"turn a 0\nturn a 1\n",
+            Status::Done,
+            b"tick a 0\nact a 0\ntick a 1\nidle a\nvar a k 1\nend\n",
+        ),
+        // With no event the variables are as they start.
+        ("no event", COUNTER, b"", Status::Done, b"var a k 0\nend\n"),
+        // The greatest reading; the last line feed is wanting.
+        (
+            "latest reading",
+            COUNTER,
+            b"turn a 18446744073709551615",
+            Status::Done,
+            b"tick a 18446744073709551615\nact a 0\nvar a k 1\nend\n",
+        ),
+        // A process that is not declared.
+        (
+            "no process",
+            COUNTER,
+            b"turn a 0\nturn b 0\n",
+            Status::BadSchedule,
+            b"tick a 0\nact a 0\nbad line 2\n",
+        ),
+        // Of two enabled actions the first one runs.
+        (
+            "first of two",
+            EITHER,
+            b"turn a 0\nturn a 0\n",
+            Status::Done,
+            b"tick a 0\nact a 0\ntick a 0\nact a 0\nvar a x 1\nend\n",
+        ),
+        // An empty text has no tokens, and is no tree.
+        ("no text", b"", b"", Status::Refused, b"refused S1 1:1\n"),
+        // A datagram is sent, arrives, and is received.
+        (
+            "travels",
+            PING,
+            b"turn a 0\nturn a 1\narrive a b\nturn b 2\nturn b 3\n",
+            Status::Done,
+            b"tick a 0\nact a 0\nsent b 01\ntick a 1\nidle a\narrive a b\ntick b 2\nact b 0\n\
+tick b 3\nidle b\nvar a k 1\nvar b seen 1\nend\n",
+        ),
+        // Before it arrives it is not received.
+        (
+            "on its way",
+            PING,
+            b"turn a 0\nturn b 1\n",
+            Status::Done,
+            b"tick a 0\nact a 0\nsent b 01\ntick b 1\nidle b\nvar a k 1\nvar b seen 0\nend\n",
+        ),
+        // Nothing is in flight.
+        (
+            "nothing in flight",
+            PING,
+            b"arrive a b\n",
+            Status::Done,
+            b"void\nvar a k 0\nvar b seen 0\nend\n",
+        ),
+        // The other way nothing is in flight, and a datagram arrives once.
+        (
+            "other way",
+            PING,
+            b"turn a 0\narrive b a\narrive a b\narrive a b",
+            Status::Done,
+            b"tick a 0\nact a 0\nsent b 01\nvoid\narrive a b\nvoid\nvar a k 1\nvar b seen 0\nend\n",
+        ),
+        // Nothing arrives at its sender.
+        (
+            "to itself",
+            PING,
+            b"arrive a a\n",
+            Status::BadSchedule,
+            b"bad line 1\n",
+        ),
+        // A space behind the last word.
+        (
+            "space behind",
+            PING,
+            b"arrive a b \n",
+            Status::BadSchedule,
+            b"bad line 1\n",
+        ),
+        // A line that is none so far.
+        (
+            "no cut yet",
+            PING,
+            b"cut a 0\n",
+            Status::BadSchedule,
+            b"bad line 1\n",
+        ),
+        // Each field begins with its most significant byte.
+        (
+            "wide fields",
+            WIDE,
+            b"turn a 0\narrive a b\nturn b 0\n",
+            Status::Done,
+            b"tick a 0\nact a 0\nsent b 010203020101020304050607\narrive a b\ntick b 0\nact b 0\n\
+var a k 1\nvar b v 258\nvar b w 197121\nend\n",
+        ),
+        // Two messages of one length from one peer.
+        ("not told apart", ALIKE, b"", Status::Refused, OUTSIDE),
+        // Datagrams of one channel are received in the order of the sends.
+        (
+            "in order",
+            APART,
+            b"turn a 0\narrive a b\narrive a b\nturn b 0\nturn b 0\n",
+            Status::Done,
+            b"tick a 0\nact a 0\nsent b 01\nsent b 0002\narrive a b\narrive a b\ntick b 0\nact b 0\n\
+tick b 0\nact b 1\nvar a k 1\nvar b s 2\nend\n",
+        ),
+        // A number is handed on from a to b, and from b to c.
+        (
+            "handed on",
+            CHAIN,
+            b"turn a 5\narrive a b\nturn b 6\nturn c 7\narrive b c\nturn c 8\n",
+            Status::Done,
+            b"tick a 5\nact a 0\nsent b 07\narrive a b\ntick b 6\nact b 0\nsent c 07\ntick c 7\nidle c\n\
+arrive b c\ntick c 8\nact c 0\nvar a k 7\nvar b seen 7\nvar c got 7\nend\n",
+        ),
+        // A datagram in flight is lost, and then none is left to arrive.
+        (
+            "lost",
+            PING,
+            b"turn a 0\nlose a b 0\narrive a b\nturn b 2\n",
+            Status::Done,
+            b"tick a 0\nact a 0\nsent b 01\nlose a b 0\nvoid\ntick b 2\nidle b\nvar a k 1\nvar b seen 0\nend\n",
+        ),
+        // What has arrived is not lost.
+        (
+            "too late to lose",
+            PING,
+            b"turn a 0\narrive a b\nlose a b 0\nturn b 2\n",
+            Status::Done,
+            b"tick a 0\nact a 0\nsent b 01\narrive a b\nvoid\ntick b 2\nact b 0\nvar a k 1\nvar b seen 1\nend\n",
+        ),
+        // Places count from the first datagram in flight: 1 is the second, 2 is none.
+        (
+            "second lost",
+            APART,
+            b"turn a 0\nlose a b 2\nlose b a 0\nlose a b 1\nlose a b 1\narrive a b\nturn b 0\narrive a b\nturn b 1\n",
+            Status::Done,
+            b"tick a 0\nact a 0\nsent b 01\nsent b 0002\nvoid\nvoid\nlose a b 1\nvoid\narrive a b\n\
+tick b 0\nact b 0\nvoid\ntick b 1\nidle b\nvar a k 1\nvar b s 1\nend\n",
+        ),
+        // The greatest place that a line can name.
+        (
+            "greatest place",
+            PING,
+            b"lose a b 4294967295\n",
+            Status::Done,
+            b"void\nvar a k 0\nvar b seen 0\nend\n",
+        ),
+        // A place of more than 32 bits.
+        (
+            "place too large",
+            PING,
+            b"lose a b 4294967296\n",
+            Status::BadSchedule,
+            b"bad line 1\n",
+        ),
+        // A zero in front.
+        (
+            "leading zero",
+            PING,
+            b"lose a b 01\n",
+            Status::BadSchedule,
+            b"bad line 1\n",
+        ),
+        // Two spaces.
+        (
+            "two spaces",
+            PING,
+            b"lose  a b 0\n",
+            Status::BadSchedule,
+            b"bad line 1\n",
+        ),
+        // Nothing is lost from a process to itself.
+        (
+            "lost to itself",
+            PING,
+            b"lose a a 0\n",
+            Status::BadSchedule,
+            b"bad line 1\n",
+        ),
+        // A sign in front.
+        (
+            "signed",
+            PING,
+            b"turn a -1\n",
+            Status::BadSchedule,
+            b"bad line 1\n",
+        ),
+        // A word is wanting.
+        (
+            "no reading",
+            PING,
+            b"turn a\n",
+            Status::BadSchedule,
+            b"bad line 1\n",
+        ),
+        // A line without words, behind one that is run.
+        (
+            "blank line",
+            PING,
+            b"turn b 0\n\nturn b 1\n",
+            Status::BadSchedule,
+            b"tick b 0\nidle b\nbad line 2\n",
+        ),
+        // Parentheses are none of the small language.
+        (
+            "parentheses",
+            b"process a var k : 0..1 begin (k) = 0 -> skip end",
+            b"",
+            Status::Refused,
+            OUTSIDE,
+        ),
+        // A field of no whole byte.
+        (
+            "seven bits",
+            b"message m begin n : 7 bits end process a begin end process b begin end",
+            b"",
+            Status::Refused,
+            OUTSIDE,
+        ),
+        // A field of more than 56 bits.
+        (
+            "sixty four bits",
+            b"message m begin n : 64 bits end process a begin end process b begin end",
+            b"",
+            Status::Refused,
+            OUTSIDE,
+        ),
+        // Two variables of one name.
+        (
+            "name twice",
+            b"process a var k : 0..1; k : 0..1 begin end",
+            b"",
+            Status::Refused,
+            OUTSIDE,
+        ),
+        // A value that can leave the range of its target.
+        (
+            "leaves its range",
+            b"process a var k : 0..1; n : 0..2 begin k = 0 -> k := n end",
+            b"",
+            Status::Refused,
+            OUTSIDE,
+        ),
+        // A process that sends to itself.
+        (
+            "sends to itself",
+            b"message m begin n : 8 bits end process a begin 0 = 0 -> send m(1) to a [] rcv m from a -> skip end",
+            b"",
+            Status::Refused,
+            OUTSIDE,
+        ),
+        // A byte that is none of the alphabet.
+        (
+            "stray byte",
+            b"process a begin \x01 end",
+            b"",
+            Status::Refused,
+            b"refused L1 1:17\n",
+        ),
+        // A number above 2^63 - 1.
+        (
+            "large number",
+            b"process a var k : 0..9223372036854775808 begin end",
+            b"",
+            Status::Refused,
+            b"refused L2 1:22\n",
+        ),
+        // A text behind the events, with no line feed.
+        (
+            "text behind",
+            COUNTER,
+            b"turn a 0\nstop",
+            Status::BadSchedule,
+            b"tick a 0\nact a 0\nbad line 2\n",
+        ),
+        // A line of traces behind the events.
+        (
+            "line of traces",
+            COUNTER,
+            b"turn a 0\nturn a 1\nend\n",
+            Status::BadSchedule,
+            b"tick a 0\nact a 0\ntick a 1\nidle a\nbad line 3\n",
+        ),
+        // A carriage return before the line feed.
+        (
+            "carriage return",
+            COUNTER,
+            b"turn a 0\r\n",
+            Status::BadSchedule,
+            b"bad line 1\n",
+        ),
+    ]
+}
+
+#[test]
+fn a_run_writes_its_trace(rt: HostRuntime) -> Result<(), Fail> {
+    for (name, system, schedule, status, lines) in rows() {
+        let case = Case {
+            name,
+            words: WORLD,
+            system,
+            schedule,
+            status,
+            lines,
+            ..CALM
+        };
+        check(&rt, rt.alloc(), &case)?;
+    }
+    Ok(())
+}

@@ -1,0 +1,76 @@
+//! The texts of systems.
+
+/// A process counts once.
+pub const COUNTER: &[u8] = b"process a var k : 0..1 begin k = 0 -> k := 1 end";
+
+/// Two actions are enabled at once.
+pub const EITHER: &[u8] = b"process a var x : 0..2 begin 1 = 1 -> x := 1 [] 1 = 1 -> x := 2 end";
+
+/// A datagram goes from a to b.
+pub const PING: &[u8] = b"message ping begin n : 8 bits end \
+process a var k : 0..1 begin k = 0 -> k := 1; send ping(k) to b end \
+process b var seen : 0..255 begin rcv ping from a -> seen := ping.n end";
+
+/// 258, 197121 and 283686952306183 are 01 02, 03 02 01 and 01 02 03 04 05 06 07 in bytes.
+pub const WIDE: &[u8] = b"message wide begin x : 16 bits; y : 24 bits; z : 56 bits end \
+process a var k : 0..1 begin k = 0 -> k := 1; send wide(258, 197121, 283686952306183) to b end \
+process b var v : 0..65535; w : 0..16777215 begin rcv wide from a -> v := wide.x; w := wide.y end";
+
+/// Two messages of one length from one peer.
+pub const ALIKE: &[u8] = b"message p begin x : 8 bits end message q begin y : 8 bits end \
+process a var k : 0..1 begin k = 0 -> k := 1; send p(1) to b; send q(2) to b end \
+process b var s : 0..255 begin rcv p from a -> s := p.x [] rcv q from a -> s := q.y end";
+
+/// Two messages of different lengths from one peer.
+pub const APART: &[u8] = b"message p begin x : 8 bits end message q begin y : 16 bits end \
+process a var k : 0..1 begin k = 0 -> k := 1; send p(1) to b; send q(2) to b end \
+process b var s : 0..65535 begin rcv p from a -> s := p.x [] rcv q from a -> s := q.y end";
+
+/// A number is handed on from a to b, and from b to c.
+pub const CHAIN: &[u8] = b"message hand begin n : 8 bits end \
+process a var k : 0..9 begin k = 0 -> k := 7; send hand(k) to b end \
+process b var seen : 0..255 begin rcv hand from a -> seen := hand.n; send hand(hand.n) to c end \
+process c var got : 0..255 begin rcv hand from b -> got := hand.n end";
+
+/// Three sends, of which a cut may take back some.
+pub const CUT: &[u8] = b"message m begin f : 8 bits end
+process a var n : 0..1
+begin n = 0 -> n := 1; send m(1) to b; send m(2) to c; send m(3) to b end
+process b begin rcv m from a -> skip end
+process c begin rcv m from a -> skip end
+";
+
+/// Three actions are enabled at once.
+pub const TRI: &[u8] = b"process a var x : 0..2
+begin true -> x := 0 [] true -> x := 1 [] true -> x := 2 end
+";
+
+/// A bit and a number travel, and are sent again until they are acknowledged.
+pub const ALTERNATING_BIT: &[u8] =
+    b"message data begin kind : 8 bits = 1; seq : 1 bits; body : 16 bits end
+message ack begin kind : 8 bits = 2; seq : 1 bits end
+process a
+inp last : 0..1000
+var seq : 0..1; body : 0..65535 = 7; busy : boolean; done : 0..1000
+timer again
+begin
+  not busy and done < last ->
+    send data(seq, body) to b; busy := true; start again after 200
+[] rcv ack from b ->
+    if busy and ack.seq = seq ->
+      seq := 1 - seq; body := (body + 1) mod 65536; busy := false;
+      stop again; done := min(done + 1, 1000)
+    fi
+[] timeout again ->
+    send data(seq, body) to b; start again after 200
+end
+process b
+var want : 0..1; got : 0..65535; count : 0..1000
+begin
+  rcv data from a ->
+    if data.seq = want ->
+      got := data.body; want := 1 - want; count := min(count + 1, 1000)
+    fi;
+    send ack(data.seq) to a
+end
+";

@@ -1,0 +1,61 @@
+//! How the rows write their texts, and what is shown of them.
+
+use std::alloc::Global;
+use std::test::Fail;
+use tap_base::Place;
+use tap_front::{Offence, TextFault, accept, refused_line, tree_of};
+use tap_parser::ParseFault;
+
+/// A text without its mark `^`, and the place of the byte behind the mark.
+pub fn unmarked(alloc: Global, marked: &[u8]) -> Result<(Vec<u8>, Place), Fail> {
+    let mut text = Vec::new(alloc);
+    let mut here = Place { line: 1, column: 1 };
+    let mut place = here;
+    for byte in marked {
+        if *byte == b'^' {
+            place = here;
+            continue;
+        }
+        text.push(*byte)?;
+        here.column = here.column.saturating_add(1);
+        if *byte == b'\n' {
+            here.line = here.line.saturating_add(1);
+            here.column = 1;
+        }
+    }
+    Ok((text, place))
+}
+
+/// A text with a part of it said many times.
+pub fn repeated(
+    alloc: Global,
+    front: &str,
+    part: &str,
+    times: u32,
+    back: &str,
+) -> Result<String, Fail> {
+    let mut text = String::from_str(alloc, front)?;
+    for _ in 0..times {
+        text.push_str(part)?;
+    }
+    text.push_str(back)?;
+    Ok(text)
+}
+
+/// The line of what keeps a text from being read as a tree, or that it is read.
+pub fn read_line(alloc: Global, text: &[u8]) -> Result<String, Fail> {
+    match tree_of(alloc, text) {
+        Ok(_) => Ok(String::from_str(alloc, "read\n")?),
+        Err(ParseFault::Refused(refusal)) => Ok(refused_line(alloc, Offence::Coded(refusal))?),
+        Err(ParseFault::NoMemory) => Ok(String::from_str(alloc, "no memory\n")?),
+    }
+}
+
+/// The line of the first offence of a text, or that it is accepted.
+pub fn accepted_line(alloc: Global, text: &[u8]) -> Result<String, Fail> {
+    match accept(alloc, text) {
+        Ok(_) => Ok(String::from_str(alloc, "accepted\n")?),
+        Err(TextFault::Refused(offence)) => Ok(refused_line(alloc, offence)?),
+        Err(TextFault::NoMemory) => Ok(String::from_str(alloc, "no memory\n")?),
+    }
+}

@@ -1,0 +1,42 @@
+//! The systems that texts are accepted as, and their names.
+
+ghost use Rattle.std.specs.Prelude.{◌<◌, ◌^◌, IfOk, length};
+ghost use Rattle.abstract_run.specs.Runnable.{IsRunnable};
+ghost use Rattle.run_text.specs.Names.{AreNames};
+ghost use Rattle.tap_front.specs.Accepting.{TellsApart};
+
+use run_text::{Names, names_of};
+use std::alloc::Global;
+use std::test::Fail;
+use tap_base::System;
+use tap_front::accept;
+
+/// A process that counts once.
+pub const COUNTER: &[u8] = b"process a var k : 0..1 begin k = 0 -> k := 1 end";
+
+/// A datagram goes from a to b.
+pub const PING: &[u8] = b"message ping begin n : 8 bits end \
+process a var k : 0..1 begin k = 0 -> k := 1; send ping(k) to b end \
+process b var seen : 0..255 begin rcv ping from a -> seen := ping.n end";
+
+/// The system that a text is accepted as.
+#[tactic(auto, using(tap_front::proofs::Runs::accepted_runs))]
+pub fn system_of(alloc: Global, text: &[u8]) -> Result<System, Fail>
+    ensures runnable { IfOk result IsRunnable }
+    ensures apart { IfOk result TellsApart }
+{
+    let Ok(system) = accept(alloc, text) else {
+        return Err("the text is refused".into());
+    };
+    Ok(system)
+}
+
+#[tactic(auto, using(crate::proofs::Named::few_names))]
+/// The names in the system that a text is accepted as.
+pub fn names_in(alloc: Global, text: &[u8]) -> Result<Names, Fail>
+    ensures apart { IfOk result (λ names. AreNames names.processes) }
+    ensures few { IfOk result (λ names. length names.processes < 2 ^ 32) }
+{
+    let system = system_of(alloc, text)?;
+    Ok(names_of(alloc, &system)?)
+}

@@ -1,0 +1,12 @@
+pub mod AtomValues
+pub mod BodyGoes
+pub mod DistinctNames
+pub mod FoundReceivers
+pub mod Goes
+pub mod Refuted
+pub mod SendGoes
+pub mod Shapes
+pub mod SmallNarrow
+pub mod SmallSafe
+pub mod Standing
+pub mod Values

@@ -1,0 +1,19 @@
+//! The limits of the small language: which systems are of it, and what is so of each.
+#![tactic(auto)]
+
+mod apart;
+mod atoms;
+mod bounds;
+mod counts;
+mod distinct;
+mod laws;
+mod limits;
+mod named;
+mod peers;
+mod plain;
+mod receivers;
+mod short;
+mod stmts;
+
+pub use laws::{small_is_narrow, small_is_safe};
+pub use limits::is_small;

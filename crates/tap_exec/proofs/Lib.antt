@@ -1,0 +1,4 @@
+pub mod Alternatives
+pub mod Fronts
+pub mod StmtInduction
+pub mod StmtOpen

@@ -1,0 +1,4 @@
+pub mod ExprNodes
+pub mod ExprReading
+pub mod ExprSigns
+pub mod Exprs

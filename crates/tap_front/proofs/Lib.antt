@@ -1,0 +1,4 @@
+pub mod Named
+pub mod OneOffence
+pub mod Runs
+pub mod TreesRead

@@ -1,0 +1,87 @@
+-- A text is accepted or has an offence, and never both; and its first offence is one, but for the place of S1.
+use Rattle.std.proofs.Common.{◌≡◌, ℕ, ◌<◌, ◌≤◌, List, Ok, Err, codes, length, refl, sym, ap, subst, arith}
+use Rattle.tap_base.specs.declared.ast.Ast.{Ast}
+use Rattle.tap_base.specs.declared.refusal.Refusal.{Refusal}
+use Rattle.tap_base.specs.declared.token.Token.{Token}
+use Rattle.tap_lexer.specs.Lexeme.{lexemes}
+use Rattle.tap_parser.specs.Systems.{IsTree, SpellsText, TextOffence}
+use Rattle.tap_lexer.specs.Tokens.{LexesTo, Outcome, SpellsTokens}
+use Rattle.tap_lexer.proofs.One.{one_text}
+use Rattle.tap_parser.proofs.TextEnds.{one_text_end}
+use Rattle.tap_parser.proofs.TextOneTree.{one_text as one_tree}
+use Rattle.tap_front.specs.Accepting.{Accepted, IsReadAs, longest_text}
+use Rattle.tap_front.specs.Laws.{NeverRefused, OneOffence, OneTreeOfText}
+use Rattle.tap_front.specs.Lines.{code_word}
+use Rattle.tap_front.specs.Offences.{Misspells, Offends, misspelled, too_long, unlexed, unparsed, unnamed}
+use Rattle.tap_front.specs.declared.offence.Offence.{Offence}
+use Rattle.tap_front.specs.declared.offence.Offence.TheVariants.{Coded}
+use Rattle.tap_base.specs.declared.system.System.{System}
+
+-- ---- tokens
+
+same_tokens : (text : List ℕ) (ts us : List Token) → SpellsTokens text ts → SpellsTokens text us → ts ≡ us
+same_tokens text ts us h g = let e : (let o : Outcome = Ok ts in o) ≡ Ok us = one_text text (Ok ts) (Ok us) h g in cc
+
+same_refusal : (text : List ℕ) (r s : Refusal) → LexesTo text (Err r) → LexesTo text (Err s) → r ≡ s
+same_refusal text r s h g = let e : (let o : Outcome = Err r in o) ≡ Err s = one_text text (Err r) (Err s) h g in cc
+
+not_lexed : (text : List ℕ) (r : Refusal) (ts : List Token) → LexesTo text (Err r) → SpellsTokens text ts → ⊥
+not_lexed text r ts h g = let e : (let o : Outcome = Err r in o) ≡ Ok ts = one_text text (Err r) (Ok ts) h g in cc
+
+-- ---- texts
+
+-- tokens that are a tree have no offence
+not_tree : (text : List ℕ) (tokens : List Token) (tree : Ast) (r : Refusal) → IsTree (lexemes text tokens) tree → TextOffence text tokens r → ⊥
+not_tree text tokens tree r t o = (one_text_end text tokens r o).0 tree t
+
+not_long : (text : List ℕ) → longest_text < length text → length text ≤ longest_text → ⊥
+not_long text h g = omega (arith, h, g)
+
+never_misspelled : (text : List ℕ) (tree : Ast) (r : Refusal) → IsReadAs text tree → Misspells text r → ⊥
+never_misspelled text tree r a (too_long long) = not_long text long a.sized
+never_misspelled text tree r a (unlexed sized l) = not_lexed text r a.tokens l a.lexed
+never_misspelled text tree r a (unparsed {tokens} sized l t) =
+    not_tree text a.tokens tree r a.parsed (subst (λ ts. TextOffence text ts r) (same_tokens text tokens a.tokens l a.lexed) t)
+
+accepted_whole : (text : List ℕ) (system : System) (o : Offence) → Accepted text system → Offends text o → ⊥
+accepted_whole text system o a (misspelled {r} m) = never_misspelled text a.tree r a.read m
+accepted_whole text system o a (unnamed read outside) = outside system a.named
+
+pub never_refused : NeverRefused
+never_refused = (never_misspelled, accepted_whole)
+
+-- the code and the place of the first offence of tokens
+of_tokens : (text : List ℕ) (tokens : List Token) (r s : Refusal) → TextOffence text tokens r → TextOffence text tokens s
+    → (code_word r.code ≡ code_word s.code) × ((code_word r.code ≡ codes "S1" → ⊥) → r ≡ s)
+of_tokens text tokens r s o p =
+    let h = (one_text_end text tokens r o).1 s p in
+    (ap code_word h.0, λ n. h.1 (λ e. n (ap code_word e)))
+
+one_misspelling : (text : List ℕ) (r s : Refusal) → Misspells text r → Misspells text s
+    → (code_word r.code ≡ code_word s.code) × ((code_word r.code ≡ codes "S1" → ⊥) → r ≡ s)
+one_misspelling text r s (too_long h) (too_long g) = (refl, λ n. refl)
+one_misspelling text r s (too_long h) (unlexed g l) = absurd (not_long text h g)
+one_misspelling text r s (too_long h) (unparsed g l t) = absurd (not_long text h g)
+one_misspelling text r s (unlexed h l) (too_long g) = absurd (not_long text g h)
+one_misspelling text r s (unlexed h l) (unlexed g m) = let e = same_refusal text r s l m in (ap (λ x. code_word x.code) e, λ n. e)
+one_misspelling text r s (unlexed h l) (unparsed {tokens} g m t) = absurd (not_lexed text r tokens l m)
+one_misspelling text r s (unparsed h l t) (too_long g) = absurd (not_long text g h)
+one_misspelling text r s (unparsed {tokens} h l t) (unlexed g m) = absurd (not_lexed text s tokens m l)
+one_misspelling text r s (unparsed {tokens} h l t) (unparsed {tokens = others} g m u) =
+    of_tokens text tokens r s t (subst (λ ts. TextOffence text ts s) (same_tokens text others tokens m l) u)
+
+pub one_offence : OneOffence
+one_offence text o p (misspelled {r} m) (misspelled {r = s} n) = let h = one_misspelling text r s m n in (h.0, λ k. ap Coded (h.1 k))
+one_offence text o p (misspelled {r} m) (unnamed {tree} read outside) = absurd (never_misspelled text tree r read m)
+one_offence text o p (unnamed {tree} read outside) (misspelled {r} m) = absurd (never_misspelled text tree r read m)
+one_offence text o p (unnamed read outside) (unnamed other out) = (refl, λ n. refl)
+
+-- ---- trees
+
+same_tree : (text : List ℕ) (tokens others : List Token) (c d : Ast) → tokens ≡ others → IsTree (lexemes text tokens) c → IsTree (lexemes text others) d → c ≡ d
+same_tree text tokens others c d e h g =
+    let P : List Token → Type 0 = λ ts. SpellsText (lexemes text ts) d in
+    one_tree (lexemes text tokens) c d h.spelled (subst P (sym e) g.spelled)
+
+pub one_tree_of_text : OneTreeOfText
+one_tree_of_text text c d h g = same_tree text h.tokens g.tokens c d (same_tokens text h.tokens g.tokens h.lexed g.lexed) h.parsed g.parsed

@@ -1,0 +1,28 @@
+-- Texts that are read as trees.
+use Rattle.std.proofs.Common.{◌≡◌, ◌≤◌, ℕ, List, Result, Ok, Err, IsErrAnd, length, sym, subst}
+use Rattle.tap_base.specs.declared.ast.Ast.{Ast}
+use Rattle.tap_base.specs.declared.system.System.{System}
+use Rattle.tap_base.specs.declared.token.Token.{Token}
+use Rattle.tap_lexer.specs.Tokens.{SpellsTokens}
+use Rattle.tap_expr.specs.declared.fault.ParseFault.{ParseFault}
+use Rattle.tap_expr.specs.declared.fault.ParseFault.TheVariants as fault
+use Rattle.tap_parser.specs.inner.Texts.{TextAnswers}
+use Rattle.tap_front.specs.Accepting.{longest_text}
+use Rattle.tap_front.specs.Offences.{TextReads, TreeReads, misspelled, unparsed}
+use Rattle.tap_front.specs.declared.texts.TextFault.{TextFault}
+use Rattle.tap_front.specs.inner.Faults.{unread}
+
+-- the tree of a text is that of its tokens
+pub reads_tokens : (text : List ℕ) (tokens : List Token) → length text ≤ longest_text → SpellsTokens text tokens → (r : Result Ast ParseFault) → TextAnswers text tokens r → TreeReads text r
+reads_tokens text tokens sized lexed (Ok tree) h = record { sized = sized; tokens = tokens; lexed = lexed; parsed = h }
+reads_tokens text tokens sized lexed (Err (fault.Refused r)) h = unparsed sized lexed h
+reads_tokens text tokens sized lexed (Err fault.NoMemory) h = tt
+
+unaccepted : (text : List ℕ) (e : ParseFault) → TreeReads text (Err e) → TextReads text (Err (unread e))
+unaccepted text (fault.Refused r) h = misspelled h
+unaccepted text fault.NoMemory h = tt
+
+-- what is not read as a tree is not accepted
+pub not_accepted : (text : List ℕ) (e : ParseFault) → TreeReads text (Err e) → (r : Result System TextFault) → IsErrAnd r (λ k. k ≡ unread e) → TextReads text r
+not_accepted text e h (Ok system) q = absurd q
+not_accepted text e h (Err k) q = subst (λ f. TextReads text (Err f)) (sym q) (unaccepted text e h)

@@ -1,0 +1,32 @@
+-- What a text is read as, and the system that it is accepted as.
+use Rattle.std.specs.Prelude.{ℕ, ◌≤◌, List, length, map}
+use Rattle.tap_base.specs.declared.ast.Ast.{Ast}
+use Rattle.tap_base.specs.declared.system.System.{System}
+use Rattle.tap_base.specs.declared.token.Token.{Token}
+use Rattle.tap_lexer.specs.Lexeme.{lexemes}
+use Rattle.tap_base.specs.Lists.{Each, AreDistinct}
+use Rattle.tap_base.specs.LineWords.{IsWord}
+use Rattle.tap_small.specs.SmallText.{SmallText}
+use Rattle.tap_parser.specs.Systems.{IsTree}
+use Rattle.tap_lexer.specs.Tokens.{SpellsTokens}
+
+-- how many bytes the text of a system has at most
+abbrev pub longest_text : ℕ
+longest_text = 1048576
+
+-- The text is read as the tree: it is no longer than a text may be, has tokens, and these are the tree within the limits.
+pub record IsReadAs (text : List ℕ) (tree : Ast) : Type 0 where
+  pub sized : length text ≤ longest_text
+  pub tokens : List Token
+  pub lexed : SpellsTokens text tokens
+  pub parsed : IsTree (lexemes text tokens) tree
+
+-- The text is accepted as the system: it is read as a tree, is one of the small language, and names the system.
+pub record Accepted (text : List ℕ) (system : System) : Type 0 where
+  pub tree : Ast
+  pub read : IsReadAs text tree
+  pub named : SmallText text system
+
+-- The names of processes tell them apart in the words of a line: each is a word, and of one process alone.
+abbrev pub TellsApart : System → Type 0
+TellsApart system = let names = map (λ p. p.name) system.processes in Each IsWord names × AreDistinct names

@@ -1,0 +1,45 @@
+-- What the definitions of texts promise by themselves.
+use Rattle.std.specs.Prelude.{◌≡◌, ℕ, ◌≤◌, List, length, codes}
+use Rattle.abstract_run.specs.Runnable.{IsRunnable}
+use Rattle.tap_base.specs.declared.ast.Ast.{Ast}
+use Rattle.tap_base.specs.declared.refusal.Refusal.{Refusal}
+use Rattle.tap_base.specs.declared.system.System.{System}
+use Rattle.tap_printer.specs.Canonical.{canonical}
+use Rattle.tap_printer.specs.PlacesAside.{SameTree}
+use Rattle.tap_front.specs.Accepting.{Accepted, IsReadAs, TellsApart, longest_text}
+use Rattle.tap_front.specs.Lines.{offence_code}
+use Rattle.tap_front.specs.Offences.{Misspells, Offends}
+use Rattle.tap_front.specs.declared.offence.Offence.{Offence}
+
+-- A text that is read as a tree has no offence that keeps it from that; one that is accepted has none.
+abbrev pub NeverRefused : Type 0
+NeverRefused =
+    ((text : List ℕ) (tree : Ast) (r : Refusal) → IsReadAs text tree → Misspells text r → ⊥)
+    × ((text : List ℕ) (system : System) (o : Offence) → Accepted text system → Offends text o → ⊥)
+
+-- First offences of one text have one code, and but for S1 they are one.
+abbrev pub OneOffence : Type 0
+OneOffence = (text : List ℕ) (o p : Offence) → Offends text o → Offends text p
+    → (offence_code o ≡ offence_code p) × ((offence_code o ≡ codes "S1" → ⊥) → o ≡ p)
+
+-- A text is read as at most one tree.
+abbrev pub OneTreeOfText : Type 0
+OneTreeOfText = (text : List ℕ) (c d : Ast) → IsReadAs text c → IsReadAs text d → c ≡ d
+
+-- The canonical text of a text, where it is no longer than a text may be, is read as the same tree, places aside, and as no
+-- other; and its canonical text is itself.
+abbrev pub PrintedAgain : Type 0
+PrintedAgain = (text : List ℕ) (tree : Ast) → IsReadAs text tree → length (canonical tree) ≤ longest_text
+    → ((d : Ast) × IsReadAs (canonical tree) d × (canonical d ≡ canonical tree)) × ((d : Ast) → IsReadAs (canonical tree) d → SameTree d tree)
+
+-- In a system that a text is accepted as, the names of processes tell them apart.
+abbrev pub NamesTellApart : Type 0
+NamesTellApart = (text : List ℕ) (system : System) → Accepted text system → TellsApart system
+
+-- A system that a text is accepted as can be run without choices and inputs.
+abbrev pub AcceptedRuns : Type 0
+AcceptedRuns = (text : List ℕ) (system : System) → Accepted text system → IsRunnable system
+
+-- A text is accepted as at most one system.
+abbrev pub OneSystemOfText : Type 0
+OneSystemOfText = (text : List ℕ) (a b : System) → Accepted text a → Accepted text b → a ≡ b

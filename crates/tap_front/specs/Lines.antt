@@ -1,0 +1,48 @@
+-- How an offence is printed.
+use Rattle.std.specs.Prelude.{ℕ, List, ◌++◌, codes}
+use Rattle.std.specs.Fmt.{decimal}
+use Rattle.tap_base.specs.declared.place.Place.{Place}
+use Rattle.tap_base.specs.declared.refusal.RefusalCode.{RefusalCode}
+use Rattle.tap_base.specs.declared.refusal.RefusalCode.TheVariants as code
+use Rattle.tap_lexer.specs.Bytes.{start}
+use Rattle.tap_front.specs.declared.offence.Offence.{Offence}
+use Rattle.tap_front.specs.declared.offence.Offence.TheVariants.{Coded, Outside}
+
+-- a code as it is printed
+abbrev pub code_word : RefusalCode → List ℕ
+code_word code.L0 = codes "L0"
+code_word code.L1 = codes "L1"
+code_word code.L2 = codes "L2"
+code_word code.S1 = codes "S1"
+code_word code.S2 = codes "S2"
+code_word code.S3 = codes "S3"
+code_word code.N1 = codes "N1"
+code_word code.N2 = codes "N2"
+code_word code.N3 = codes "N3"
+code_word code.K1 = codes "K1"
+code_word code.K2 = codes "K2"
+code_word code.X1 = codes "X1"
+code_word code.X2 = codes "X2"
+code_word code.M1 = codes "M1"
+code_word code.M2 = codes "M2"
+code_word code.M3 = codes "M3"
+code_word code.W1 = codes "W1"
+code_word code.W2 = codes "W2"
+code_word code.W3 = codes "W3"
+code_word code.W4 = codes "W4"
+code_word code.W5 = codes "W5"
+code_word code.W6 = codes "W6"
+code_word code.W7 = codes "W7"
+
+-- the code of an offence as it is printed: `S0` is one for the time being
+abbrev pub offence_code : Offence → List ℕ
+offence_code (Coded r) = code_word r.code
+offence_code Outside = codes "S0"
+
+abbrev pub offence_place : Offence → Place
+offence_place (Coded r) = r.place
+offence_place Outside = start
+
+-- the line that is written of an offence
+abbrev pub refused_line : Offence → List ℕ
+refused_line o = codes "refused " ++ offence_code o ++ codes " " ++ decimal (offence_place o).line ++ codes ":" ++ decimal (offence_place o).column ++ codes "\n"

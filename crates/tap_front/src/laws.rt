@@ -1,0 +1,41 @@
+//! What the definitions of texts promise by themselves.
+
+ghost use Rattle.tap_front.specs.Laws.{AcceptedRuns, NamesTellApart, NeverRefused, OneOffence, OneSystemOfText, OneTreeOfText, PrintedAgain};
+
+/// A text that is read as a tree has no offence that keeps it from that, and one that is accepted has none.
+pub fn never_refused()
+    ensures { NeverRefused }
+{}
+
+/// First offences of one text have one code, and but for S1 they are one.
+pub fn one_offence()
+    ensures { OneOffence }
+{}
+
+/// A text is read as at most one tree.
+pub fn one_tree_of_text()
+    ensures { OneTreeOfText }
+{}
+
+/// What is printed of a text is read as the same tree, places aside, and as no other, where it is no longer than
+/// a text may be; and it is printed as it is.
+pub fn printed_again()
+    ensures { PrintedAgain }
+{}
+
+/// In a system that a text is accepted as, the names of processes have no space and no line feed, and no two are
+/// one.
+pub fn names_tell_apart()
+    ensures { NamesTellApart }
+{}
+
+/// A system that a text is accepted as keeps its ranges, is computed by 64-bit numbers, and can be run without
+/// choices and inputs.
+pub fn accepted_runs()
+    ensures { AcceptedRuns }
+{}
+
+/// A text is accepted as at most one system.
+pub fn one_system_of_text()
+    ensures { OneSystemOfText }
+{}

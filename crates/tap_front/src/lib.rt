@@ -1,0 +1,13 @@
+//! A text is read as a tree, is accepted as a system, or has a first offence.
+#![tactic(auto)]
+
+mod laws;
+mod offence;
+mod texts;
+
+pub use laws::{
+    accepted_runs, names_tell_apart, never_refused, one_offence, one_system_of_text,
+    one_tree_of_text, printed_again,
+};
+pub use offence::{Offence, refused_line};
+pub use texts::{LONGEST_TEXT, TOO_LONG, TextFault, accept, tree_of};

@@ -1,0 +1,78 @@
+//! The first offence of a text, and the line that is written of it.
+
+ghost use Rattle.std.specs.Prelude.{◌≡◌, IfOk, string_bytes};
+ghost use Rattle.tap_front.specs.Lines.{code_word, offence_code, offence_place, refused_line};
+
+use std::alloc::Global;
+use tap_base::{NoMemory, Place, Refusal, RefusalCode};
+
+/// The first offence of a text.
+#[derive(Clone, Copy, Debug, PartialEq, Eq)]
+pub enum Offence {
+    /// One with a code and a place.
+    Coded(Refusal),
+    /// None of these, but the text is none of the small language: `S0` at 1:1, for the time being.
+    Outside,
+}
+
+impl Offence {
+    /// Its code as it is printed.
+    pub fn code(self) -> &'static str
+        ensures { result.now ≡ offence_code self }
+    {
+        match self {
+            Offence::Coded(refusal) => code_word(refusal.code),
+            Offence::Outside => "S0",
+        }
+    }
+
+    /// Where it stands.
+    pub fn place(self) -> Place
+        ensures { result ≡ offence_place self }
+    {
+        match self {
+            Offence::Coded(refusal) => refusal.place,
+            Offence::Outside => Place { line: 1, column: 1 },
+        }
+    }
+}
+
+/// The line that is written of an offence.
+pub fn refused_line(alloc: Global, offence: Offence) -> Result<String, NoMemory>
+    ensures { IfOk result (λ line. string_bytes line ≡ refused_line offence) }
+{
+    let code = offence.code();
+    let place = offence.place();
+    Ok(format!(in alloc; "refused {code} {}:{}\n", place.line, place.column)?)
+}
+
+/// A code as it is printed.
+fn code_word(code: RefusalCode) -> &'static str
+    ensures { result.now ≡ code_word code }
+{
+    match code {
+        RefusalCode::L0 => "L0",
+        RefusalCode::L1 => "L1",
+        RefusalCode::L2 => "L2",
+        RefusalCode::S1 => "S1",
+        RefusalCode::S2 => "S2",
+        RefusalCode::S3 => "S3",
+        RefusalCode::N1 => "N1",
+        RefusalCode::N2 => "N2",
+        RefusalCode::N3 => "N3",
+        RefusalCode::K1 => "K1",
+        RefusalCode::K2 => "K2",
+        RefusalCode::X1 => "X1",
+        RefusalCode::X2 => "X2",
+        RefusalCode::M1 => "M1",
+        RefusalCode::M2 => "M2",
+        RefusalCode::M3 => "M3",
+        RefusalCode::W1 => "W1",
+        RefusalCode::W2 => "W2",
+        RefusalCode::W3 => "W3",
+        RefusalCode::W4 => "W4",
+        RefusalCode::W5 => "W5",
+        RefusalCode::W6 => "W6",
+        RefusalCode::W7 => "W7",
+    }
+}

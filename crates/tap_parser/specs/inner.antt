@@ -1,0 +1,4 @@
+pub mod Forms
+pub mod Keeping
+pub mod Reading
+pub mod Texts

@@ -1,0 +1,4 @@
+pub mod Inputless
+pub mod Labels
+pub mod Lines
+pub mod Turns

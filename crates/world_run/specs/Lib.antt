@@ -1,0 +1,4 @@
+pub mod Names
+pub mod Opening
+pub mod Served
+pub mod inner

@@ -1,0 +1,7 @@
+//! The world: the abstract system, which serves one event of a schedule at a time and writes its lines.
+#![tactic(auto)]
+
+mod sends;
+mod world;
+
+pub use world::World;

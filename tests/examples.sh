@@ -1,0 +1,16 @@
+#!/usr/bin/env bash
+# Each examples/NAME/RUN.sch is run on examples/NAME/NAME.tap, writes RUN.out and ends with RUN.status, or 0; and each
+# text that is run is accepted. No proof says what a file on the disk holds, nor what standard output takes.
+. tests/lib/cases.sh
+
+for schedule in examples/*/*.sch; do
+    name=$(basename "$(dirname "$schedule")")
+    run=${schedule%.sch}
+    status=0
+    [ -f "$run.status" ] && status=$(cat "$run.status")
+    writes "$status" "$run.out" world "examples/$name/$name.tap" "$schedule"
+done
+for text in examples/*/*.tap; do
+    ls "$(dirname "$text")"/*.sch >/dev/null 2>&1 && says 0 accepted check "$text"
+done
+finish

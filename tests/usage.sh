@@ -1,0 +1,32 @@
+#!/usr/bin/env bash
+# No words, wrong words, empty words, words that are no text, and words of commands to come: the usage line and
+# status 2. The toolchain tells nothing of a program's words, so no proof says which ones it got.
+. tests/lib/cases.sh
+
+usage='usage: tapc check | print | compile | world | node | replay | make | soak'
+text=examples/ping/ping.tap
+schedule=examples/ping/ping.sch
+
+says 2 "$usage"
+for command in check print; do
+    says 2 "$usage" $command
+    says 2 "$usage" $command ''
+    says 2 "$usage" $command $text $schedule
+    says 2 "$usage" ${command^} $text
+    says 2 "$usage" "$command " $text
+    says 2 "$usage" $command $'\xff'
+    says 2 "$usage" "$command $text"
+done
+says 2 "$usage" world
+says 2 "$usage" world $text
+says 2 "$usage" world $text ''
+says 2 "$usage" world '' $schedule
+says 2 "$usage" world $text $schedule $schedule
+says 2 "$usage" World $text $schedule
+says 2 "$usage" world $text $'\xff'
+for word in '' -h --help --version help compile node replay make soak; do
+    says 2 "$usage" "$word"
+    says 2 "$usage" "$word" $text
+    says 2 "$usage" "$word" $text $schedule
+done
+finish
