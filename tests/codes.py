@@ -2,7 +2,8 @@
 
 A drawing is a fenced block with one line of a single caret under the line of a text, and then one line
 `refused CODE LINE:COLUMN`. The caret must stand at that place, and `check` must write that line of the text
-without the two. A block with neither is a text that is accepted.
+without the two. A block with neither is a text that is accepted. A block that begins with `$ ` is a run, which the
+check of the pages compares; the codes that it shows are drawn too.
 """
 import os
 import re
@@ -30,6 +31,9 @@ def main():
     with tempfile.TemporaryDirectory() as folder:
         name = os.path.join(folder, "text.tap")
         for block in re.findall(r"^```\n(.*?)\n```$", page, re.S | re.M):
+            if block.startswith("$ "):
+                codes.update(re.findall(r"^refused ([A-Z]\d+) ", block, re.M))
+                continue
             text, place, line = drawn(block.split("\n"))
             write(name, text)
             _, written = run("check", name)

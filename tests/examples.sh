@@ -1,6 +1,6 @@
 #!/usr/bin/env bash
-# Each examples/NAME/RUN.sch is run on examples/NAME/NAME.tap, writes RUN.out and ends with RUN.status, or 0; and each
-# text that is run is accepted. No proof says what a file on the disk holds, nor what standard output takes.
+# Each examples/NAME/RUN.sch is run on examples/NAME/NAME.tap with the words of RUN.settings, or none, writes RUN.out and
+# ends with RUN.status, or 0; and each text that is run is accepted. No proof says what a file on the disk holds, nor what standard output takes.
 . tests/lib/cases.sh
 
 for schedule in examples/*/*.sch; do
@@ -8,7 +8,9 @@ for schedule in examples/*/*.sch; do
     run=${schedule%.sch}
     status=0
     [ -f "$run.status" ] && status=$(cat "$run.status")
-    writes "$status" "$run.out" world "examples/$name/$name.tap" "$schedule"
+    settings=()
+    [ -f "$run.settings" ] && read -ra settings <"$run.settings"
+    writes "$status" "$run.out" world "examples/$name/$name.tap" "$schedule" "${settings[@]}"
 done
 for text in examples/*/*.tap; do
     ls "$(dirname "$text")"/*.sch >/dev/null 2>&1 && says 0 accepted check "$text"

@@ -1,50 +1,95 @@
 """Each limit of the language, at its border on both sides.
 
-A text at the border is accepted, and with an empty schedule its variables and the end are written. One step
-further it is refused by both commands. The limits are proved as definitions; that the numbers of the manual are
-those is not.
+At the border a text is accepted, and with an empty schedule its variables and the end are written; or it has no
+offence but can't be run so far, and is refused S0. One step further it is refused by both commands, at the place
+that the mark ^ shows. The limits are proved as definitions; that the numbers of the manual are those is not.
 """
 import os
+import re
 import tempfile
 
 from lib.program import Cases, run, write
 
-ACCEPTED = b"accepted\n"
-OUTSIDE = b"refused S0 1:1\n"
-TOO_LONG = b"refused L0 1:1\n"
+ACCEPTED = "accepted"
+OUTSIDE = "refused S0 1:1"
+TOO_LONG = "refused L0 1:1"
+END = " begin end"
 
 
-def names(front, count):
-    return [f"{front}{i}" for i in range(count)]
+def many(front, part, joint, count, back):
+    """A part said so many times, its last time with a mark before it; # in it is its number."""
+    parts = [part.replace("#", str(i)) for i in range(count)]
+    return front + joint.join(parts[:-1] + ["^" + parts[-1]]) + back
 
 
 def processes(count):
-    return "\n".join(f"process {name} begin end" for name in names("p", count))
+    return many("process ", "p# begin end", " process ", count, "")
 
 
 def messages(count):
-    return "\n".join(f"message {name} begin f : 8 bits end" for name in names("m", count)) + " process a begin end"
+    return many("message ", "m# begin f : 8 bits end", " message ", count, " process a" + END)
 
 
-def fields(widths):
-    listed = "; ".join(f"f{i} : {width} bits" for i, width in enumerate(widths))
-    return f"message m begin {listed} end process a begin end"
+def fields(count):
+    return many("message m begin ", "f# : 8 bits", "; ", count, " end process a" + END)
 
 
-def actions(count):
-    return "process a begin " + " [] ".join(["0 = 1 -> skip"] * count) + " end"
+def inputs(count):
+    return many("process a inp ", "i# : boolean", "; ", count, END)
 
 
 def variables(count):
-    return "process a var " + "; ".join(f"{name} : 0..1" for name in names("v", count)) + " begin end"
+    return many("process a var ", "v# : boolean", "; ", count, END)
+
+
+def timers(count):
+    return many("process a timer ", "t#", ", ", count, END)
+
+
+def actions(count):
+    return many("process a begin ", "# = 0 -> skip", " [] ", count, " end")
+
+
+def constants(count):
+    return many("process a const ", "k# = #", "; ", count, END)
+
+
+def array(cells):
+    return f"process a var ^x : array {cells} of boolean" + END
+
+
+def behind_an_array(cells):
+    return f"process a var x : array {cells - 1} of boolean; ^y : boolean" + END
+
+
+def turns(count):
+    return f"process a begin true -> do ^{count} times true -> skip od end"
+
+
+def chosen(values):
+    return f"process a var x : 1..{values} begin true -> choose ^x end"
+
+
+def chosen_of_cells(values):
+    return f"process a var x : array 2 of -1..{values - 2} begin true -> choose ^x[1] end"
+
+
+def width(bits):
+    return f"message m begin ^f : {bits} bits end process a" + END
+
+
+def fixed(value):
+    return f"message m begin ^f : 8 bits = {value} end process a" + END
+
+
+def size_of_message(count):
+    """A message of so many bytes: 146 fields of 7 of them, and further ones of one."""
+    listed = "; ".join(f"f{i} : {w} bits" for i, w in enumerate([56] * 146 + [8] * (count - 1022)))
+    return f"message m begin {listed} end process a" + END
 
 
 def statements(count):
     return "process a begin 0 = 1 -> " + "; ".join(["skip"] * count) + " end"
-
-
-def name(length):
-    return "process " + "n" * length + " begin end"
 
 
 def size(length):
@@ -52,19 +97,51 @@ def size(length):
     return text + "x" * (length - len(text))
 
 
-# 146 fields of 56 bits and one of 16 are 8,192 bits.
+def named(front, back):
+    return lambda length: front + "^" + "n" * length + back
+
+
+# What is limited, the texts by their number, the limit, what is told of the text at it, and of the one behind it.
 LIMITS = [
-    ("processes", processes(64), processes(65), OUTSIDE),
-    ("messages", messages(256), messages(257), OUTSIDE),
-    ("fields of a message", fields([8] * 256), fields([8] * 257), OUTSIDE),
-    ("bits of a message", fields([56] * 146 + [16]), fields([56] * 146 + [24]), OUTSIDE),
-    ("bits of a field", fields([56]), fields([64]), OUTSIDE),
-    ("actions of a process", actions(256), actions(257), OUTSIDE),
-    ("variables of a process", variables(4096), variables(4097), OUTSIDE),
-    ("statements of an action", statements(64), statements(65), OUTSIDE),
-    ("bytes of a name", name(64), name(65), OUTSIDE),
-    ("bytes of a text", size(1048576), size(1048577), TOO_LONG),
+    ("processes", processes, 64, ACCEPTED, "X1"),
+    ("messages", messages, 256, ACCEPTED, "X1"),
+    ("fields of a message", fields, 256, ACCEPTED, "X1"),
+    ("inputs of a process", inputs, 256, ACCEPTED, "X1"),
+    ("variables of a process", variables, 4096, ACCEPTED, "X1"),
+    ("cells of an array", array, 4096, OUTSIDE, "X1"),
+    ("cells of a process", behind_an_array, 4096, OUTSIDE, "X1"),
+    ("timers of a process", timers, 32, OUTSIDE, "X1"),
+    ("actions of a process", actions, 256, ACCEPTED, "X1"),
+    ("turns of a loop", turns, 65536, OUTSIDE, "X1"),
+    ("values of a choice", chosen, 2**32, OUTSIDE, "X1"),
+    ("values of a choice of a cell", chosen_of_cells, 2**32, OUTSIDE, "X1"),
+    ("bytes of a message's name", named("message ", " begin f : 8 bits end process a" + END), 64, ACCEPTED, "X1"),
+    ("bytes of a field's name", named("message m begin ", " : 8 bits end process a" + END), 64, ACCEPTED, "X1"),
+    ("bytes of a process's name", named("process ", END), 64, ACCEPTED, "X1"),
+    ("bytes of a constant's name", named("process a const ", " = 1" + END), 64, ACCEPTED, "X1"),
+    ("bytes of an input's name", named("process a inp ", " : boolean" + END), 64, ACCEPTED, "X1"),
+    ("bytes of a variable's name", named("process a var ", " : boolean" + END), 64, ACCEPTED, "X1"),
+    ("bytes of a timer's name", named("process a timer ", END), 64, OUTSIDE, "X1"),
+    ("bits of a field", width, 63, OUTSIDE, "X2"),
+    ("a fixed value of 8 bits", fixed, 255, OUTSIDE, "X2"),
+    ("bits of a field that can be run", lambda n: width(n).replace("^", ""), 56, ACCEPTED, "S0"),
+    ("bytes of a message", size_of_message, 1024, ACCEPTED, "S0"),
+    ("statements of an action", statements, 64, ACCEPTED, "S0"),
+    ("bytes of a text", size, 1048576, ACCEPTED, "L0"),
 ]
+# What has no limit but that of the text.
+FREE = [("constants of a process", constants(5000))]
+
+
+def unmarked(marked):
+    """A text without its mark, and where the mark stood, which is the start where there is none."""
+    at = max(marked.find("^"), 0)
+    return marked.replace("^", ""), f"1:{at + 1}"
+
+
+def settings(text):
+    """A setting for each input of a text, all of which are truths of the process a."""
+    return [f"a.{name}=0" for name in re.findall(r"(\w+) : boolean", text.partition(" inp ")[2])]
 
 
 def main():
@@ -72,15 +149,27 @@ def main():
     with tempfile.TemporaryDirectory() as folder:
         system, schedule = os.path.join(folder, "system.tap"), os.path.join(folder, "empty.sch")
         write(schedule, "")
-        for what, within, beyond, refusal in LIMITS:
-            write(system, within)
-            cases.hold(run("check", system) == (0, ACCEPTED), f"{what}: not accepted at the limit")
-            status, written = run("world", system, schedule)
-            cases.hold(status == 0 and written.endswith(b"end\n"), f"{what}: not run at the limit, status {status}")
-            write(system, beyond)
-            for words in ["check", system], ["world", system, schedule]:
-                cases.hold(run(*words) == (1, refusal), f"{what}: {words[0]} does not refuse it beyond the limit")
-    cases.finish(least=40)
+
+        def told(text):
+            write(system, text)
+            status, written = run("check", system)
+            again, lines = run("world", system, schedule, *settings(text))
+            line = written.decode().rstrip("\n")
+            if line == ACCEPTED:
+                cases.hold((status, again) == (0, 0) and lines.endswith(b"end\n"), f"accepted, and not run: {again}")
+            else:
+                cases.hold((status, again, lines) == (1, 1, written), f"{line}: world writes {lines[:60]!r}, {again}")
+            return line
+
+        for what, text_of, most, within, code in LIMITS:
+            line = told(unmarked(text_of(most))[0])
+            cases.hold(line == within, f"{what}: {line}, and at the limit {within} is due")
+            text, place = unmarked(text_of(most + 1))
+            line, due = told(text), f"refused {code} {place}"
+            cases.hold(line == due, f"{what}: {line}, and beyond the limit {due} is due")
+        for what, text in FREE:
+            cases.hold(told(unmarked(text)[0]) == ACCEPTED, f"{what}: refused")
+    cases.finish(least=100)
 
 
 main()

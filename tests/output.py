@@ -15,6 +15,7 @@ COMMANDS = [
     ["print", TEXT],
     ["world", TEXT, SCHEDULE],
     ["world", "examples/counter/counter.tap", "examples/counter/bad_line.sch"],
+    ["world", "examples/hello/hello.tap", "examples/hello/unset.sch"],
     ["check", "examples/refused/s1_missing_arrow.tap"],
     ["check", "examples/no-such-file"],
     ["no", "command"],

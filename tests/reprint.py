@@ -10,7 +10,7 @@ import tempfile
 
 from lib.program import Cases, read, run, write
 
-TABLES = "crates/front_tests/src/*.rt"
+TABLES = "crates/*_tests/src/*.rt"
 
 
 def texts():

@@ -13,6 +13,7 @@ LAST = [
     (0, "check", r"accepted\n"),
     (0, "print", r"end\n"),
     (1, None, r"refused [A-Z]\d+ \d+:\d+\n"),
+    (1, "world", r"refused I\d [A-Za-z]\w*\.[A-Za-z]\w*\n"),
     (2, None, r"usage: tapc [a-z |]+\n"),
     (3, "world", r"bad line \d+\n"),
     (4, None, r"read fault\n"),

@@ -21,9 +21,12 @@ says 2 "$usage" world
 says 2 "$usage" world $text
 says 2 "$usage" world $text ''
 says 2 "$usage" world '' $schedule
-says 2 "$usage" world $text $schedule $schedule
 says 2 "$usage" World $text $schedule
 says 2 "$usage" world $text $'\xff'
+for word in '' a a.x x=1 a.x= a.x=01 a.x=-0 a.x=+1 'a.x=1 ' a.x=9223372036854775808 $schedule; do
+    says 2 "$usage" world $text $schedule "$word"
+    says 2 "$usage" world $text $schedule a.x=1 "$word"
+done
 for word in '' -h --help --version help compile node replay make soak; do
     says 2 "$usage" "$word"
     says 2 "$usage" "$word" $text

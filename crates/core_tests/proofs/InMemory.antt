@@ -3,6 +3,7 @@ use Rattle.std.proofs.Common.{◌≡◌, ℕ, List, Option, Some, None, IfSome, 
 use Rattle.core_tests.specs.InMemory.{IsTraceOfRun, TookTrace}
 use Rattle.run_text.specs.ScheduleText.{SpellsSchedule}
 use Rattle.run_text.specs.TraceText.{names_in}
+use Rattle.tap_settings.specs.SettingText.{Assignment}
 use Rattle.tapc_core.specs.Command.{AreFound}
 use Rattle.tapc_core.specs.Entries.{contents_of}
 use Rattle.tapc_core.specs.MemorySink.{SinkValue}
@@ -10,7 +11,7 @@ use Rattle.tapc_core.specs.MemoryStore.{StoreValue}
 use Rattle.tapc_core.specs.Outside.{IsTold}
 use Rattle.tapc_core.specs.Run.{Gives}
 use Rattle.tapc_core.specs.Written.{Puts}
-use Rattle.tapc_core.specs.commands.World.{IsTrace, files_named, reads_both}
+use Rattle.tapc_core.specs.commands.World.{IsTrace, reads_both, task_of}
 use Rattle.tapc_core.specs.declared.status.Status.TheVariants.{Done}
 use Rattle.tapc_core.proofs.GivenTexts.{where_told}
 
@@ -23,18 +24,19 @@ what_is (Some bytes) t = (bytes, refl)
 of_it : (o : Option (List ℕ)) (P : List ℕ → Type 0) (bytes : List ℕ) → o ≡ Some bytes → IfSome o P → P bytes
 of_it o P bytes e h = let held : IfSome (Some bytes) P = subst (λ x. IfSome x P) e h in held
 
-pub took : (system schedule : List ℕ) (store : StoreValue) (old new : SinkValue)
+pub took : (system schedule : List ℕ) (settings : List Assignment) (store : StoreValue) (old new : SinkValue)
     → AreFound (reads_both system schedule Done) (contents_of store.entries)
-    → Puts (IsTrace (files_named system schedule (contents_of store.entries))) (Some old.written) (Some new.written)
-    → TookTrace system schedule store old new
-took system schedule store old new found p =
+    → Puts (IsTrace (task_of system schedule settings (contents_of store.entries))) (Some old.written) (Some new.written)
+    → TookTrace system schedule settings store old new
+took system schedule settings store old new found p =
     let contents = contents_of store.entries in
     let text = what_is (contents system) found.0 in
     let lines = what_is (contents schedule) found.1.0 in
     let run = p.kind.run in
-    let trace : IsTraceOfRun text.0 lines.0 p.bytes = record {
+    let trace : IsTraceOfRun text.0 lines.0 settings p.bytes = record {
       semantics = run.semantics;
-      gives = of_it (contents system) (λ t. Gives t run.semantics) text.0 text.1 (where_told (contents system) run.semantics run.gives);
+      inputs = run.inputs;
+      gives = of_it (contents system) (λ t. Gives t settings run.semantics run.inputs) text.0 text.1 (where_told (contents system) settings run.semantics run.inputs run.gives);
       events = run.events;
       spelled = of_it (contents schedule) (λ t. SpellsSchedule (names_in run.semantics) t run.events) lines.0 lines.1 p.kind.schedule;
       labels = run.labels;

@@ -1,5 +1,7 @@
 -- A run over a store and a sink in memory, where everything is told.
 use Rattle.std.specs.Prelude.{◌≡◌, ℕ, List, ◌++◌, Some}
+use Rattle.tap_base.specs.declared.system.Inputs.{Inputs}
+use Rattle.abstract_run.specs.Opening.{opening_state}
 use Rattle.abstract_run.specs.Semantics.{Semantics}
 use Rattle.abstract_run.specs.declared.label.Event.{Event}
 use Rattle.abstract_run.specs.declared.label.Label.{Label}
@@ -7,29 +9,30 @@ use Rattle.abstract_run.specs.declared.state.State.{State}
 use Rattle.run_text.specs.OneTrace.{IsTraceOf}
 use Rattle.run_text.specs.ScheduleText.{SpellsSchedule}
 use Rattle.run_text.specs.TraceText.{names_in}
+use Rattle.tap_settings.specs.SettingText.{Assignment}
 use Rattle.tapc_core.specs.Entries.{contents_of}
 use Rattle.tapc_core.specs.MemorySink.{SinkValue}
 use Rattle.tapc_core.specs.MemoryStore.{StoreValue}
-use Rattle.tapc_core.specs.Run.{Gives, IsRunOf}
-use Rattle.world_run.specs.Opening.{opening}
+use Rattle.tapc_core.specs.Run.{Gives, IsRunFrom}
 
--- The bytes are the trace of labels that answer the events of a schedule, in what a text gives.
-pub record IsTraceOfRun (text schedule bytes : List ℕ) : Type 0 where
+-- The bytes are the trace of labels that answer the events of a schedule, in what a text and settings give.
+pub record IsTraceOfRun (text schedule : List ℕ) (settings : List Assignment) (bytes : List ℕ) : Type 0 where
   pub semantics : Semantics
-  pub gives : Gives text semantics
+  pub inputs : Inputs
+  pub gives : Gives text settings semantics inputs
   pub events : List Event
   pub spelled : SpellsSchedule (names_in semantics) schedule events
   pub labels : List Label
   pub last : State
-  pub run : IsRunOf semantics events labels last
-  pub is : IsTraceOf semantics (opening semantics) labels bytes
+  pub run : IsRunFrom semantics (opening_state semantics inputs) events labels last
+  pub is : IsTraceOf semantics (opening_state semantics inputs) labels bytes
 
 -- The store has both files, and the sink took the trace of their run behind what it had.
-pub record TookTrace (system schedule : List ℕ) (store : StoreValue) (old new : SinkValue) : Type 0 where
+pub record TookTrace (system schedule : List ℕ) (settings : List Assignment) (store : StoreValue) (old new : SinkValue) : Type 0 where
   pub text : List ℕ
   pub text_is : contents_of store.entries system ≡ Some text
   pub lines : List ℕ
   pub lines_are : contents_of store.entries schedule ≡ Some lines
   pub bytes : List ℕ
-  pub trace : IsTraceOfRun text lines bytes
+  pub trace : IsTraceOfRun text lines settings bytes
   pub took : new.written ≡ old.written ++ bytes

@@ -2,6 +2,7 @@
 
 ghost use Rattle.std.specs.Prelude.{◌≡◌, ℕ, List, Some};
 ghost use Rattle.core_tests.specs.InMemory.{TookTrace};
+ghost use Rattle.tap_settings.specs.SettingText.{Assignment};
 ghost use Rattle.tapc_core.specs.Words.{command_of, world};
 
 use std::alloc::Global;
@@ -101,7 +102,7 @@ fn run_in_memory(
     store: &mut MemoryStore,
     out: &mut MemorySink,
 ) -> Status
-    ensures done { (system schedule : List ℕ) → command_of words.now ≡ Some (world system schedule) → result ≡ Status.Done → TookTrace system schedule store.old out.old out.new }
+    ensures done { (system schedule : List ℕ) (settings : List Assignment) → command_of words.now ≡ Some (world system schedule settings) → result ≡ Status.Done → TookTrace system schedule settings store.old out.old out.new }
 {
     run(alloc, words, store, out)
 }

@@ -1,7 +1,9 @@
 //! What `check`, `world` and `print` answer to a text: it is accepted or refused.
 
 use super::cases::{CALM, CHECK, Case, PRINT, answer, check};
-use super::texts::{ALTERNATING_BIT, COUNTER, CUT, PING, TRI};
+use super::texts::{ALTERNATING_BIT, COUNTER, CUT, PING, TOKEN, TRI};
+use std::alloc::Global;
+use std::process::Abort;
 use std::test::Fail;
 use tapc_core::Status;
 
@@ -10,11 +12,11 @@ type Row = (&'static str, &'static [u8], Status, &'static [u8]);
 
 const ACCEPTED: &[u8] = b"accepted\n";
 
-/// What is written of a text of the whole language that is none of the small one, whatever it lacks.
+/// What is written of a text without an offence that can't be run so far.
 const OUTSIDE: &[u8] = b"refused S0 1:1\n";
 
-/// All of them.
-fn rows() -> [Row; 29] {
+/// Those that are read as trees.
+fn trees() -> [Row; 18] {
     [
         ("a counter", COUNTER, Status::Done, ACCEPTED),
         ("a datagram", PING, Status::Done, ACCEPTED),
@@ -24,7 +26,8 @@ fn rows() -> [Row; 29] {
             Status::Done,
             ACCEPTED,
         ),
-        ("three actions", TRI, Status::Refused, OUTSIDE),
+        ("three actions", TRI, Status::Done, ACCEPTED),
+        ("a token that is handed on", TOKEN, Status::Done, ACCEPTED),
         (
             "the alternating bit protocol",
             ALTERNATING_BIT,
@@ -34,21 +37,81 @@ fn rows() -> [Row; 29] {
         (
             "a parenthesis in a guard",
             b"process a var k : 0..1 begin (k) = 0 -> skip end",
-            Status::Refused,
-            OUTSIDE,
+            Status::Done,
+            ACCEPTED,
+        ),
+        (
+            "a bracket at depth 32",
+            b"process a begin ((((((((((((((((((((((((((((((((1)))))))))))))))))))))))))))))))) = 1 -> skip end",
+            Status::Done,
+            ACCEPTED,
         ),
         (
             "a variable that is not declared",
             b"process a begin x = 0 -> skip end",
             Status::Refused,
-            OUTSIDE,
+            b"refused N1 1:17\n",
         ),
         (
             "a process that is declared twice",
             b"\n\n  process a begin end process a begin end",
             Status::Refused,
+            b"refused N2 3:31\n",
+        ),
+        (
+            "a send to itself",
+            b"message m begin f : 8 bits end\nprocess a begin true -> send m(1) to\n  a end",
+            Status::Refused,
+            b"refused N3 3:3\n",
+        ),
+        (
+            "a number for a guard",
+            b"process a var x : 0..1 begin x -> skip end",
+            Status::Refused,
+            b"refused K1 1:30\n",
+        ),
+        (
+            "an expression of 200 nodes",
+            b"process a begin -1+1+1+1+1+1+1+1+1+1+1+1+1+1+1+1+1+1+1+1+1+1+1+1+1+1+1+1+1+1+1+1+1+1+1+1+1+1+1+1+1+1+1+1+1+1+1+1+1+1+1+1+1+1+1+1+1+1+1+1+1+1+1+1+1+1+1+1+1+1+1+1+1+1+1+1+1+1+1+1+1+1+1+1+1+1+1+1+1+1+1+1+1+1+1+1+1+1+1+1 -> skip end",
+            Status::Refused,
+            b"refused K1 1:215\n",
+        ),
+        (
+            "two values for one target",
+            b"process a var x : 0..1\nbegin true ->\nx := 0, 1 end",
+            Status::Refused,
+            b"refused K2 3:1\n",
+        ),
+        (
+            "a loop of no turns",
+            b"process a begin true ->\n do 0 times true -> skip od end",
+            Status::Refused,
+            b"refused X1 2:5\n",
+        ),
+        (
+            "a range without values",
+            b"process a\nvar x : 1..0 begin end",
+            Status::Refused,
+            b"refused X2 2:5\n",
+        ),
+        (
+            "a send that nobody receives",
+            b"message m begin f : 8 bits end process a begin true -> send m(1) to b end process b begin end",
+            Status::Refused,
+            b"refused M3 1:61\n",
+        ),
+        (
+            "a sum",
+            b"process a var x : 0..9 begin x = 0 -> x := 1 + 1 end",
+            Status::Refused,
             OUTSIDE,
         ),
+    ]
+}
+
+/// Those that are not: their bytes, tokens or grammar are refused.
+fn others() -> [Row; 19] {
+    [
         (
             "a byte outside of the alphabet",
             b"process a begin \x01 end",
@@ -147,12 +210,6 @@ fn rows() -> [Row; 29] {
             b"refused S2 1:57\n",
         ),
         (
-            "a bracket at depth 32",
-            b"process a begin ((((((((((((((((((((((((((((((((1)))))))))))))))))))))))))))))))) = 1 -> skip end",
-            Status::Refused,
-            OUTSIDE,
-        ),
-        (
             "an expression of 201 nodes",
             b"process a begin 1+1+1+1+1+1+1+1+1+1+1+1+1+1+1+1+1+1+1+1+1+1+1+1+1+1+1+1+1+1+1+1+1+1+1+1+1+1+1+1+1+1+1+1+1+1+1+1+1+1+1+1+1+1+1+1+1+1+1+1+1+1+1+1+1+1+1+1+1+1+1+1+1+1+1+1+1+1+1+1+1+1+1+1+1+1+1+1+1+1+1+1+1+1+1+1+1+1+1+1+1 -> skip end",
             Status::Refused,
@@ -163,12 +220,6 @@ fn rows() -> [Row; 29] {
             b"process a begin 1+1+1+1+1+1+1+1+1+1+1+1+1+1+1+1+1+1+1+1+1+1+1+1+1+1+1+1+1+1+1+1+1+1+1+1+1+1+1+1+1+1+1+1+1+1+1+1+1+1+1+1+1+1+1+1+1+1+1+1+1+1+1+1+1+1+1+1+1+1+1+1+1+1+1+1+1+1+1+1+1+1+1+1+1+1+1+1+1+1+1+1+1+1+1+1+1+1+1+1+1 end",
             Status::Refused,
             b"refused S1 1:219\n",
-        ),
-        (
-            "an expression of 200 nodes",
-            b"process a begin -1+1+1+1+1+1+1+1+1+1+1+1+1+1+1+1+1+1+1+1+1+1+1+1+1+1+1+1+1+1+1+1+1+1+1+1+1+1+1+1+1+1+1+1+1+1+1+1+1+1+1+1+1+1+1+1+1+1+1+1+1+1+1+1+1+1+1+1+1+1+1+1+1+1+1+1+1+1+1+1+1+1+1+1+1+1+1+1+1+1+1+1+1+1+1+1+1+1+1+1 -> skip end",
-            Status::Refused,
-            OUTSIDE,
         ),
     ]
 }
@@ -186,22 +237,27 @@ fn case_of<'a>(row: &Row, words: &'a [&'a str]) -> Case<'a> {
     }
 }
 
-#[test]
-fn a_text_is_checked(rt: HostRuntime) -> Result<(), Fail> {
-    for row in &rows() {
-        check(&rt, rt.alloc(), &case_of(row, CHECK))?;
+/// All of a list come to what `check` is to answer.
+fn all_are_checked(rt: &impl Abort, alloc: Global, rows: &[Row]) -> Result<(), Fail> {
+    for row in rows {
+        check(rt, alloc, &case_of(row, CHECK))?;
     }
     Ok(())
 }
 
-/// The schedule of a text that is refused is not looked for.
 #[test]
-fn the_world_refuses_the_same(rt: HostRuntime) -> Result<(), Fail> {
-    for row in &rows() {
+fn a_text_is_checked(rt: HostRuntime) -> Result<(), Fail> {
+    all_are_checked(&rt, rt.alloc(), &trees())?;
+    all_are_checked(&rt, rt.alloc(), &others())
+}
+
+/// Those of a list that are refused are refused by `world` too, whose schedule is not looked for.
+fn world_refuses_them(rt: &impl Abort, alloc: Global, rows: &[Row]) -> Result<(), Fail> {
+    for row in rows {
         if row.2 == Status::Refused {
             check(
-                &rt,
-                rt.alloc(),
+                rt,
+                alloc,
                 &case_of(row, &["world", "s", "no such schedule"]),
             )?;
         }
@@ -209,18 +265,22 @@ fn the_world_refuses_the_same(rt: HostRuntime) -> Result<(), Fail> {
     Ok(())
 }
 
-/// Only what keeps a text from being read as a tree is told: a text that is only outside the small language is
-/// printed.
 #[test]
-fn a_text_that_is_no_tree_is_not_printed(rt: HostRuntime) -> Result<(), Fail> {
-    for row in &rows() {
-        let case = case_of(row, PRINT);
-        if case.lines == ACCEPTED || case.lines == OUTSIDE {
-            let (status, _out) = answer(rt.alloc(), &case)?;
-            assert_eq!(rt; status, Status::Done, "{}", case.name);
-        } else {
-            check(&rt, rt.alloc(), &case)?;
-        }
+fn the_world_refuses_the_same(rt: HostRuntime) -> Result<(), Fail> {
+    world_refuses_them(&rt, rt.alloc(), &trees())?;
+    world_refuses_them(&rt, rt.alloc(), &others())
+}
+
+/// Only what keeps a text from being read as a tree is told: a text whose names, kinds or limits are refused, or that
+/// can't be run, is printed.
+#[test]
+fn a_text_that_is_a_tree_is_printed(rt: HostRuntime) -> Result<(), Fail> {
+    for row in &trees() {
+        let (status, _out) = answer(rt.alloc(), &case_of(row, PRINT))?;
+        assert_eq!(rt; status, Status::Done, "{}", row.0);
+    }
+    for row in &others() {
+        check(&rt, rt.alloc(), &case_of(row, PRINT))?;
     }
     Ok(())
 }

@@ -21,7 +21,7 @@ type Row = (
 );
 
 /// All of them. Each file is begun, read, and read to its end.
-fn rows() -> [Row; 5] {
+fn rows() -> [Row; 6] {
     [
         (
             "world",
@@ -40,6 +40,15 @@ fn rows() -> [Row; 5] {
             &[b""],
             Status::Refused,
             b"refused L1 1:1\n",
+        ),
+        (
+            "world with a setting that is refused",
+            &["world", "s", "t", "a.x=1"],
+            COUNTER,
+            3,
+            &[b""],
+            Status::Refused,
+            b"refused I1 a.x\n",
         ),
         (
             "check",

@@ -17,6 +17,8 @@ mod played;
 #[cfg(test)]
 mod printed;
 #[cfg(test)]
+mod settings;
+#[cfg(test)]
 mod texts;
 #[cfg(test)]
 mod words;

@@ -1,7 +1,7 @@
 //! Runs of `world`: a system, a schedule, and what must come of them.
 
 use super::cases::{CALM, Case, WORLD, check};
-use super::texts::{ALIKE, APART, CHAIN, COUNTER, EITHER, PING, WIDE};
+use super::texts::{ALIKE, APART, CHAIN, COUNTER, EITHER, PING, TOKEN, TRI, WIDE};
 use std::test::Fail;
 use tapc_core::Status;
 
@@ -14,11 +14,11 @@ type Row = (
     &'static [u8],
 );
 
-/// What is written of a text of the whole language that is none of the small one.
+/// What is written of a text without an offence that can't be run so far.
 const OUTSIDE: &[u8] = b"refused S0 1:1\n";
 
 /// All of them.
-fn rows() -> [Row; 39] {
+fn rows() -> [Row; 45] {
     [
         // A process counts once, and is idle then.
         (
@@ -231,13 +231,60 @@ tick b 0\nact b 0\nvoid\ntick b 1\nidle b\nvar a k 1\nvar b s 1\nend\n",
             Status::BadSchedule,
             b"tick b 0\nidle b\nbad line 2\n",
         ),
-        // Parentheses are none of the small language.
+        // Parentheses leave nothing behind.
         (
             "parentheses",
-            b"process a var k : 0..1 begin (k) = 0 -> skip end",
+            b"process a var k : 0..1 begin ((k) = (0)) -> k := (1) end",
+            b"turn a 0\nturn a 1\n",
+            Status::Done,
+            b"tick a 0\nact a 0\ntick a 1\nidle a\nvar a k 1\nend\n",
+        ),
+        // Variables begin with their initial values, booleans with 0 or 1, and the others with their least values.
+        (
+            "initial values",
+            b"process a const k = 4; l = -3 var x : 0..9 = k; y : l..9; z : -9..l = -5; u : boolean; v : boolean = 1 begin end",
             b"",
-            Status::Refused,
-            OUTSIDE,
+            Status::Done,
+            b"var a x 4\nvar a y -3\nvar a z -5\nvar a u 0\nvar a v 1\nend\n",
+        ),
+        // A guard is a truth; false never holds, and true always.
+        (
+            "truths",
+            b"process a const l = -3 var x : l..9 = 9; u : boolean = 1 \
+begin false -> x := 1 [] u -> u := false; x := l [] u = false -> u := true; x := 2 [] true -> x := 3 end",
+            b"turn a 0\nturn a 1\nturn a 2\n",
+            Status::Done,
+            b"tick a 0\nact a 1\ntick a 1\nact a 2\ntick a 2\nact a 1\nvar a x -3\nvar a u 0\nend\n",
+        ),
+        // Three actions are always enabled, and the first one runs.
+        (
+            "first of three",
+            TRI,
+            b"turn a 0\nturn a 1\n",
+            Status::Done,
+            b"tick a 0\nact a 0\ntick a 1\nact a 0\nvar a x 0\nend\n",
+        ),
+        // A token goes to and fro.
+        (
+            "handed to and fro",
+            TOKEN,
+            b"turn left 0\nturn left 1\nturn left 2\narrive left right\nturn right 3\nturn right 4\nturn right 5\n\
+arrive right left\nturn left 6\n",
+            Status::Done,
+            b"tick left 0\nact left 0\ntick left 1\nact left 1\nsent right 07\ntick left 2\nidle left\n\
+arrive left right\ntick right 3\nact right 2\ntick right 4\nact right 0\ntick right 5\nact right 1\nsent left 0c\n\
+arrive right left\ntick left 6\nact left 2\nvar left has 1\nvar left works 1\nvar left seen 12\n\
+var right has 0\nvar right works 0\nvar right seen 7\nend\n",
+        ),
+        // A token is lost, and then nobody has it.
+        (
+            "a lost token",
+            TOKEN,
+            b"turn left 0\nturn left 1\nlose left right 0\nturn right 2\nturn left 3\n",
+            Status::Done,
+            b"tick left 0\nact left 0\ntick left 1\nact left 1\nsent right 07\nlose left right 0\n\
+tick right 2\nidle right\ntick left 3\nidle left\nvar left has 0\nvar left works 0\nvar left seen -1\n\
+var right has 0\nvar right works 0\nvar right seen -1\nend\n",
         ),
         // A field of no whole byte.
         (
@@ -249,11 +296,19 @@ tick b 0\nact b 0\nvoid\ntick b 1\nidle b\nvar a k 1\nvar b s 1\nend\n",
         ),
         // A field of more than 56 bits.
         (
+            "sixty three bits",
+            b"message m begin n : 63 bits end process a begin end process b begin end",
+            b"",
+            Status::Refused,
+            OUTSIDE,
+        ),
+        // A field of more than 63 bits.
+        (
             "sixty four bits",
             b"message m begin n : 64 bits end process a begin end process b begin end",
             b"",
             Status::Refused,
-            OUTSIDE,
+            b"refused X2 1:17\n",
         ),
         // Two variables of one name.
         (
@@ -261,7 +316,7 @@ tick b 0\nact b 0\nvoid\ntick b 1\nidle b\nvar a k 1\nvar b s 1\nend\n",
             b"process a var k : 0..1; k : 0..1 begin end",
             b"",
             Status::Refused,
-            OUTSIDE,
+            b"refused N2 1:25\n",
         ),
         // A value that can leave the range of its target.
         (
@@ -277,7 +332,7 @@ tick b 0\nact b 0\nvoid\ntick b 1\nidle b\nvar a k 1\nvar b s 1\nend\n",
             b"message m begin n : 8 bits end process a begin 0 = 0 -> send m(1) to a [] rcv m from a -> skip end",
             b"",
             Status::Refused,
-            OUTSIDE,
+            b"refused N3 1:70\n",
         ),
         // A byte that is none of the alphabet.
         (

@@ -3,6 +3,16 @@
 /// A process counts once.
 pub const COUNTER: &[u8] = b"process a var k : 0..1 begin k = 0 -> k := 1 end";
 
+/// Guards and bodies read inputs.
+pub const INPUTS: &[u8] = b"process a inp low : -2..5; go : boolean var k : -2..5 = 0 \
+begin go -> k := low end \
+process b inp high : 7..9 var h : 7..9 = 8 begin h = 8 -> h := high end";
+
+/// An input is sent from a to b.
+pub const HELLO: &[u8] = b"message hello begin n : 8 bits end \
+process a inp number : 0..255 var said : boolean begin said = false -> said := true; send hello(number) to b end \
+process b var heard : 0..255 begin rcv hello from a -> heard := hello.n end";
+
 /// Two actions are enabled at once.
 pub const EITHER: &[u8] = b"process a var x : 0..2 begin 1 = 1 -> x := 1 [] 1 = 1 -> x := 2 end";
 
@@ -31,6 +41,15 @@ pub const CHAIN: &[u8] = b"message hand begin n : 8 bits end \
 process a var k : 0..9 begin k = 0 -> k := 7; send hand(k) to b end \
 process b var seen : 0..255 begin rcv hand from a -> seen := hand.n; send hand(hand.n) to c end \
 process c var got : 0..255 begin rcv hand from b -> got := hand.n end";
+
+/// A token goes to and fro, with a number of who had it last; who has it works first.
+pub const TOKEN: &[u8] = b"message token begin number : 8 bits end \
+process left const none = -1; mine = 7 var has : boolean = 1; works : boolean = 1; seen : none..255 = none \
+begin (works) -> works := false [] has = true -> has := false; send token(mine) to right \
+[] rcv token from right -> has := true; works := true; seen := token.number end \
+process right const none = -1; mine = 12 var has : boolean; works : boolean = 0; seen : none..255 = none \
+begin works -> works := false [] (has) = true -> has := false; send token((mine)) to left \
+[] rcv token from left -> has := true; works := true; seen := token.number end";
 
 /// Three sends, of which a cut may take back some.
 pub const CUT: &[u8] = b"message m begin f : 8 bits end

@@ -1,12 +1,7 @@
 //! The texts that are accepted, and the first offence of others.
 
-use super::texts::{accepted_line, read_line};
+use super::texts::{accepted_line, answer_lines, read_line, unmarked};
 use std::test::Fail;
-
-const ACCEPTED: &str = "accepted\n";
-
-/// What is told of a text of the whole language that is none of the small one, whatever it lacks.
-const OUTSIDE: &str = "refused S0 1:1\n";
 
 const COUNTER: &str = "process a var k : 0..1 begin k = 0 -> k := 1 end";
 
@@ -55,30 +50,66 @@ begin
 end
 ";
 
-/// Only what keeps a text from being read as a tree is told of its tree.
+/// A text is read as a tree also where it has an offence of names, kinds and limits, or can't be run so far. It is
+/// accepted, or refused with a code at its mark, or at its start where it has none.
 #[test]
-fn a_text_is_accepted_or_refused(rt: HostRuntime) -> Result<(), Fail> {
+fn a_text_that_is_a_tree_is_accepted_or_refused(rt: HostRuntime) -> Result<(), Fail> {
     let table = [
-        ("a counter", COUNTER, ACCEPTED),
-        ("a datagram", PING, ACCEPTED),
-        ("a system with a send to be cut", CUT, ACCEPTED),
-        ("three actions", TRI, OUTSIDE),
-        ("the alternating bit protocol", ALTERNATING_BIT, OUTSIDE),
+        ("a counter", COUNTER, "accepted"),
+        ("a datagram", PING, "accepted"),
+        ("a system with a send to be cut", CUT, "accepted"),
+        ("three actions", TRI, "accepted"),
+        ("the alternating bit protocol", ALTERNATING_BIT, "S0"),
         (
             "a parenthesis in a guard",
             "process a var k : 0..1 begin (k) = 0 -> skip end",
-            OUTSIDE,
+            "accepted",
         ),
         (
             "a variable that is not declared",
-            "process a begin x = 0 -> skip end",
-            OUTSIDE,
+            "process a begin ^x = 0 -> skip end",
+            "N1",
+        ),
+        (
+            "a number for a guard",
+            "process a var x : 0..1 begin ^x -> skip end",
+            "K1",
+        ),
+        (
+            "a send that nobody receives",
+            "message m begin f : 8 bits end process a begin true -> send ^m(1) to b end process b begin end",
+            "M3",
         ),
         (
             "a process that is declared twice",
-            "\n\n  process a begin end process a begin end",
-            OUTSIDE,
+            "\n\n  process a begin end process ^a begin end",
+            "N2",
         ),
+        (
+            "a bracket at depth 32",
+            "process a begin ((((((((((((((((((((((((((((((((1)))))))))))))))))))))))))))))))) = 1 -> skip end",
+            "accepted",
+        ),
+        (
+            "an expression of 200 nodes",
+            "process a begin -1+1+1+1+1+1+1+1+1+1+1+1+1+1+1+1+1+1+1+1+1+1+1+1+1+1+1+1+1+1+1+1+1+1+1+1+1+1+1+1+1+1+1+1+1+1+1+1+1+1+1+1+1+1+1+1+1+1+1+1+1+1+1+1+1+1+1+1+1+1+1+1+1+1+1+1+1+1+1+1+1+1+1+1+1+1+1+1+1+1+1+1+1+1+1+1+1+1+1^+1 -> skip end",
+            "K1",
+        ),
+    ];
+    for (name, marked, answer) in table {
+        let (wanted, found) = answer_lines(rt.alloc(), marked, answer)?;
+        assert!(rt; found.as_str() == wanted.as_str(), "{name}: {found}");
+        let (text, _) = unmarked(rt.alloc(), marked.as_bytes())?;
+        let found = read_line(rt.alloc(), text.as_slice())?;
+        assert!(rt; found.as_str() == "read\n", "the tree of {name}: {found}");
+    }
+    Ok(())
+}
+
+/// What keeps a text from being read as a tree is told of it in both ways.
+#[test]
+fn a_text_that_is_no_tree_is_refused(rt: HostRuntime) -> Result<(), Fail> {
+    let table = [
         (
             "a byte outside of the alphabet",
             "process a begin \x01 end",
@@ -157,11 +188,6 @@ fn a_text_is_accepted_or_refused(rt: HostRuntime) -> Result<(), Fail> {
             "refused S2 1:57\n",
         ),
         (
-            "a bracket at depth 32",
-            "process a begin ((((((((((((((((((((((((((((((((1)))))))))))))))))))))))))))))))) = 1 -> skip end",
-            OUTSIDE,
-        ),
-        (
             "an expression of 201 nodes",
             "process a begin 1+1+1+1+1+1+1+1+1+1+1+1+1+1+1+1+1+1+1+1+1+1+1+1+1+1+1+1+1+1+1+1+1+1+1+1+1+1+1+1+1+1+1+1+1+1+1+1+1+1+1+1+1+1+1+1+1+1+1+1+1+1+1+1+1+1+1+1+1+1+1+1+1+1+1+1+1+1+1+1+1+1+1+1+1+1+1+1+1+1+1+1+1+1+1+1+1+1+1+1+1 -> skip end",
             "refused S3 1:17\n",
@@ -171,23 +197,92 @@ fn a_text_is_accepted_or_refused(rt: HostRuntime) -> Result<(), Fail> {
             "process a begin 1+1+1+1+1+1+1+1+1+1+1+1+1+1+1+1+1+1+1+1+1+1+1+1+1+1+1+1+1+1+1+1+1+1+1+1+1+1+1+1+1+1+1+1+1+1+1+1+1+1+1+1+1+1+1+1+1+1+1+1+1+1+1+1+1+1+1+1+1+1+1+1+1+1+1+1+1+1+1+1+1+1+1+1+1+1+1+1+1+1+1+1+1+1+1+1+1+1+1+1+1 end",
             "refused S1 1:219\n",
         ),
-        (
-            "an expression of 200 nodes",
-            "process a begin -1+1+1+1+1+1+1+1+1+1+1+1+1+1+1+1+1+1+1+1+1+1+1+1+1+1+1+1+1+1+1+1+1+1+1+1+1+1+1+1+1+1+1+1+1+1+1+1+1+1+1+1+1+1+1+1+1+1+1+1+1+1+1+1+1+1+1+1+1+1+1+1+1+1+1+1+1+1+1+1+1+1+1+1+1+1+1+1+1+1+1+1+1+1+1+1+1+1+1+1 -> skip end",
-            OUTSIDE,
-        ),
     ];
     for (name, text, wanted) in table {
         let found = accepted_line(rt.alloc(), text.as_bytes())?;
         assert!(rt; found.as_str() == wanted, "{name}: {found}");
-        let is_read = wanted == ACCEPTED || wanted == OUTSIDE;
         let found = read_line(rt.alloc(), text.as_bytes())?;
-        let is_told = if is_read {
-            found.as_str() == "read\n"
-        } else {
-            found.as_str() == wanted
-        };
-        assert!(rt; is_told, "the tree of {name}: {found}");
+        assert!(rt; found.as_str() == wanted, "the tree of {name}: {found}");
+    }
+    Ok(())
+}
+
+/// Systems with constants, named and negative bounds, booleans, initial values, `true`, `false` and parentheses.
+#[test]
+fn values_and_bounds_are_accepted(rt: HostRuntime) -> Result<(), Fail> {
+    let table = [
+        (
+            "constants",
+            "process a const k = 3; l = -2 var x : -9..9 begin x = k -> x := l [] l = x -> x := k end",
+        ),
+        (
+            "constants of any size",
+            "process a const k = 9223372036854775807; l = -9223372036854775807; m = -0 begin k = l -> skip end",
+        ),
+        (
+            "a constant of the same name in each process",
+            "process a const k = 1 var x : 0..k begin end process b const k = 2 var x : 0..k begin end",
+        ),
+        (
+            "named bounds",
+            "process a const k = 3; l = -2 var x : l..k; y : 0..k; z : l..0; w : k..k begin end",
+        ),
+        (
+            "negative bounds",
+            "process a var x : -5..-1; y : -9..0 begin x = y -> y := x end",
+        ),
+        (
+            "the greatest bounds",
+            "process a var x : -9223372036854775807..9223372036854775807 begin x = 0 -> x := 9223372036854775807 end",
+        ),
+        (
+            "one value",
+            "process a var x : 3..3 begin x = 3 -> x := 3 end",
+        ),
+        (
+            "initial values",
+            "process a const k = 9 var x : 0..9 = 0; y : 0..9 = k; z : -9..9 = -9; w : -9..-5 = -7 begin end",
+        ),
+        (
+            "booleans",
+            "process a var u : boolean; v : boolean begin u -> v := u end",
+        ),
+        (
+            "initial truths",
+            "process a const k = 1 var u : boolean = 0; v : boolean = 1; w : boolean = k begin end",
+        ),
+        (
+            "true and false",
+            "process a var u : boolean begin true -> u := false [] false -> u := true end",
+        ),
+        (
+            "truths that are compared",
+            "process a var u : boolean; v : boolean begin u = v -> u := true [] true = u -> skip [] v = false -> skip [] true = false -> skip end",
+        ),
+        (
+            "parentheses",
+            "process a var x : 0..9; u : boolean begin (u) -> x := (((3))) [] ((x = 3)) -> u := (false) [] (x) = ((x)) -> skip end",
+        ),
+        (
+            "parentheses in a send",
+            "message m begin f : 8 bits end process a begin (true) -> send m((1)) to b end process b var x : 0..255 begin rcv m from a -> x := ((m.f)) end",
+        ),
+        (
+            "a constant that is sent",
+            "message m begin f : 8 bits end process a const k = 255 begin true -> send m(k) to b end process b const k = 0 var x : k..255 begin rcv m from a -> x := m.f end",
+        ),
+        (
+            "names of several spaces",
+            "message m begin m : 8 bits; a : 8 bits end process a const m = 0 var a : m..1; b : 0..1 begin a = b -> send m(a, m) to b end process b var m : 0..255 begin rcv m from a -> m := m.m end",
+        ),
+        (
+            "names of 64 bytes",
+            "message aaaaaaaaaaaaaaaaaaaaaaaaaaaaaaaaaaaaaaaaaaaaaaaaaaaaaaaaaaaaaaaa begin bbbbbbbbbbbbbbbbbbbbbbbbbbbbbbbbbbbbbbbbbbbbbbbbbbbbbbbbbbbbbbbb : 8 bits end process bbbbbbbbbbbbbbbbbbbbbbbbbbbbbbbbbbbbbbbbbbbbbbbbbbbbbbbbbbbbbbbb const aaaaaaaaaaaaaaaaaaaaaaaaaaaaaaaaaaaaaaaaaaaaaaaaaaaaaaaaaaaaaaaa = 1 var bbbbbbbbbbbbbbbbbbbbbbbbbbbbbbbbbbbbbbbbbbbbbbbbbbbbbbbbbbbbbbbb : 0..1 begin end",
+        ),
+    ];
+    for (name, text) in table {
+        let found = accepted_line(rt.alloc(), text.as_bytes())?;
+        assert!(rt; found.as_str() == "accepted\n", "{name}: {found}");
     }
     Ok(())
 }

@@ -11,11 +11,8 @@ mod printed;
 #[cfg(test)]
 mod refused;
 #[cfg(test)]
-mod small;
-#[cfg(test)]
 mod systems;
-#[cfg(test)]
-mod texts;
+pub mod texts;
 #[cfg(test)]
 mod tokens;
 #[cfg(test)]

@@ -73,6 +73,11 @@ fn a_text_names_a_system(rt: HostRuntime) -> Result<(), Fail> {
             "process a\nvar k 2..5 1 2\nvar x 0..9 1 0\naction 3:7\ntest 3:9\nother\nother\naction 4:4\ntest 4:6\nother\n",
         ),
         (
+            "constants, truths and initial values",
+            "process a\nconst k = 3; l = -2\nvar x : l..k = k; y : l..-1; u : boolean = 1; v : boolean\nbegin\n  (u) -> x := l\n[] true -> skip\nend",
+            "process a\nvar x -2..3 1 3\nvar y -2..-1 1 -2\nvar u 0..1 1 1\nvar v 0..1 1 0\naction 5:3\ntest 5:4\nother\naction 6:4\ntest 6:4\nother\n",
+        ),
+        (
             "a datagram",
             "message ping begin n : 8 bits end process a var k : 0..1 begin k = 0 -> k := 1; send ping(k) to b end process b var seen : 0..255 begin rcv ping from a -> seen := ping.n end",
             "message ping 1:9\nfield n 8\nprocess a\nvar k 0..1 1 0\naction 1:64\ntest 1:66\nother\nsend 0 1 to 1\nprocess b\nvar seen 0..255 1 0\naction 1:137\nrcv 0 from 0\nother\n",

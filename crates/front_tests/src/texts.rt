@@ -1,6 +1,7 @@
 //! How the rows write their texts, and what is shown of them.
 
 use std::alloc::Global;
+use std::fmt::Write;
 use std::test::Fail;
 use tap_base::Place;
 use tap_front::{Offence, TextFault, accept, refused_line, tree_of};
@@ -40,6 +41,40 @@ pub fn repeated(
     }
     text.push_str(back)?;
     Ok(text)
+}
+
+/// A text with a part of it said many times, each time with its number between its front and its back, from 0.
+pub fn numbered(
+    alloc: Global,
+    front: &str,
+    part: (&str, &str),
+    times: u32,
+    back: &str,
+) -> Result<String, Fail> {
+    let mut text = String::from_str(alloc, front)?;
+    for number in 0..times {
+        write!(text, "{}{number}{}", part.0, part.1)?;
+    }
+    text.push_str(back)?;
+    Ok(text)
+}
+
+/// The line of an offence of this code at the mark of a text, and the line that is told of the text; a text without a
+/// mark is marked at its start.
+pub fn offence_lines(alloc: Global, marked: &str, code: &str) -> Result<(String, String), Fail> {
+    let (text, place) = unmarked(alloc, marked.as_bytes())?;
+    let wanted = format!(in alloc; "refused {code} {}:{}\n", place.line, place.column)?;
+    Ok((wanted, accepted_line(alloc, text.as_slice())?))
+}
+
+/// The line of an answer to a text, and the line that is told of it: the answer is `accepted`, or the code of an offence
+/// at its mark.
+pub fn answer_lines(alloc: Global, marked: &str, answer: &str) -> Result<(String, String), Fail> {
+    let (wanted, found) = offence_lines(alloc, marked, answer)?;
+    if answer == "accepted" {
+        return Ok((String::from_str(alloc, "accepted\n")?, found));
+    }
+    Ok((wanted, found))
 }
 
 /// The line of what keeps a text from being read as a tree, or that it is read.

@@ -6,11 +6,11 @@ use Rattle.tap_base.specs.Lists.{AreDistinct, Each}
 use Rattle.tap_base.specs.declared.system.Process.{Process}
 use Rattle.tap_base.specs.declared.system.System.{System}
 use Rattle.tap_base.specs.declared.wire.WireField.{WireField}
-use Rattle.abstract_run.specs.Runnable.{IsRunnable}
 use Rattle.abstract_run.specs.Semantics.{messages_of, process_semantics, semantics_of}
 use Rattle.run_text.specs.Names.{AreNames}
 use Rattle.run_text.specs.TraceText.{names_in}
 use Rattle.tap_front.specs.Accepting.{TellsApart}
+use Rattle.abstract_run.specs.Runnable.{IsRunnable}
 
 same_names : (messages : List (List WireField)) (ps : List Process) → map (λ (p : Process). p.name) ps ≡ map (λ p. p.name) (map (process_semantics messages) ps)
 same_names messages [] = refl

@@ -4,10 +4,10 @@ ghost use Rattle.std.specs.Prelude.{◌≤◌};
 ghost use Rattle.tap_base.specs.Lists.{Each};
 ghost use Rattle.abstract_run.specs.Fits.{Fits};
 ghost use Rattle.abstract_run.specs.Messages.{AreValuesOf};
-ghost use Rattle.abstract_run.specs.Runnable.{IsRunnable};
 ghost use Rattle.abstract_run.specs.Semantics.{messages_of, semantics_of};
+ghost use Rattle.abstract_run.specs.Runnable.{IsRunnable};
 
-use super::texts::{COUNTER, PING, system_of};
+use super::texts::{COUNTER, PING, no_inputs, system_of};
 use abstract_run::{Label, Outgoing, State, StepFault, enabled, spell, step};
 use run_text::{names_of, write_sent};
 use std::alloc::Global;
@@ -72,7 +72,9 @@ fn check_steps(
     rows: &[Row],
     times: &[u64],
 ) -> Result<(), Fail> {
-    let World { system, mut state } = World::new(alloc, system_of(alloc, text)?)?;
+    let system = system_of(alloc, text)?;
+    let inputs = no_inputs(alloc, &system)?;
+    let World { system, mut state } = World::new(alloc, system, &inputs)?;
     for (name, label, lines, ready) in rows {
         let done = does(alloc, &system, &mut state, label)?;
         assert_eq!(rt; done.as_str(), *lines, "{name}");

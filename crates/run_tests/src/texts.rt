@@ -1,15 +1,18 @@
 //! The systems that texts are accepted as, and their names.
 
 ghost use Rattle.std.specs.Prelude.{◌<◌, ◌^◌, IfOk, length};
-ghost use Rattle.abstract_run.specs.Runnable.{IsRunnable};
+ghost use Rattle.abstract_run.specs.Fits.{InputsFit};
+ghost use Rattle.abstract_run.specs.Semantics.{semantics_of};
 ghost use Rattle.run_text.specs.Names.{AreNames};
 ghost use Rattle.tap_front.specs.Accepting.{TellsApart};
+ghost use Rattle.abstract_run.specs.Runnable.{IsRunnable};
 
 use run_text::{Names, names_of};
 use std::alloc::Global;
 use std::test::Fail;
-use tap_base::System;
+use tap_base::{Inputs, System};
 use tap_front::accept;
+use tap_settings::inputs_of;
 
 /// A process that counts once.
 pub const COUNTER: &[u8] = b"process a var k : 0..1 begin k = 0 -> k := 1 end";
@@ -20,7 +23,6 @@ process a var k : 0..1 begin k = 0 -> k := 1; send ping(k) to b end \
 process b var seen : 0..255 begin rcv ping from a -> seen := ping.n end";
 
 /// The system that a text is accepted as.
-#[tactic(auto, using(tap_front::proofs::Runs::accepted_runs))]
 pub fn system_of(alloc: Global, text: &[u8]) -> Result<System, Fail>
     ensures runnable { IfOk result IsRunnable }
     ensures apart { IfOk result TellsApart }
@@ -29,6 +31,16 @@ pub fn system_of(alloc: Global, text: &[u8]) -> Result<System, Fail>
         return Err("the text is refused".into());
     };
     Ok(system)
+}
+
+/// The inputs of a system that has none.
+pub fn no_inputs(alloc: Global, system: &System) -> Result<Inputs, Fail>
+    ensures { IfOk result (InputsFit (semantics_of system.now)) }
+{
+    let Ok(inputs) = inputs_of(alloc, system, &[]) else {
+        return Err("an input has no value".into());
+    };
+    Ok(inputs)
 }
 
 #[tactic(auto, using(crate::proofs::Named::few_names))]

@@ -1,6 +1,6 @@
 //! The world, one event at a time.
 
-use super::texts::{PING, system_of};
+use super::texts::{PING, no_inputs, system_of};
 use abstract_run::Event;
 use run_text::names_of;
 use std::test::Fail;
@@ -12,7 +12,8 @@ fn a_world_serves_an_event(rt: HostRuntime) -> Result<(), Fail> {
     let system = system_of(alloc, PING)?;
     assert_eq!(rt; system.processes.len(), 2);
     let names = names_of(alloc, &system)?;
-    let mut world = World::new(alloc, system)?;
+    let inputs = no_inputs(alloc, &system)?;
+    let mut world = World::new(alloc, system, &inputs)?;
     let (process, reading) = (0, 5);
     let mut page = Vec::new(alloc);
     page.extend_from_slice(b"before\n")?;

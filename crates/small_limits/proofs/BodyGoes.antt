@@ -19,7 +19,7 @@ use Rattle.small_limits.proofs.SendGoes.{send_goes}
 -- what is known of a statement of p
 pub record Allowed (system : System) (p : ℕ) (process : Process) (g : Guard) (s : Stmt) : Type 0 where
   pub plain : IsPlainStmt system process.vars (readable system process g) s
-  pub fits : StmtFits system.messages (ranges_in system.messages process.vars g) s
+  pub fits : StmtFits system.messages (ranges_in system.messages process g) s
   pub other : StmtIsToOther p s
   pub received : StmtIsReceived system p s
 
@@ -28,7 +28,7 @@ joined : (r : Running) (cells more : List ℤ) (sends later : List Outgoing) →
 joined r cells more sends later = ap (λ all. let t : Running = record r { cells = more; sends = all } in t) (append_assoc r.sends sends later)
 
 module _ (system : System) (p : ℕ) (process : Process) (g : Guard) (inputs received : List ℤ) (small : IsSmall system) where
-  goes : (r : Running) (s : Stmt) → Reads system process g received r.cells → Allowed system p process g s
+  goes : (r : Running) (s : Stmt) → Reads system process g inputs received r.cells → Allowed system p process g s
       → Goes system p process.vars 1 (exec computed (messages_of system) inputs received s) (exec exact (messages_of system) inputs received s) r
   goes r stmt.Skip h x =
       let machine : (t : Running) → exec computed (messages_of system) inputs received stmt.Skip t ≡ Some t = λ t. search (rules, the_lemmas) in
@@ -46,7 +46,7 @@ module _ (system : System) (p : ℕ) (process : Process) (g : Guard) (inputs rec
   goes r (stmt.Send m values q) h x = send_goes system p process g inputs received r m values q small h x.plain x.fits x.other x.received
   goes r _ h x = absurd x.plain
 
-  pub body_goes : (r : Running) (ss : List Stmt) → Reads system process g received r.cells → Each (Allowed system p process g) ss
+  pub body_goes : (r : Running) (ss : List Stmt) → Reads system process g inputs received r.cells → Each (Allowed system p process g) ss
       → Goes system p process.vars (length ss) (exec_all computed (messages_of system) inputs received ss) (exec_all exact (messages_of system) inputs received ss) r
   body_goes r [] h x = record {
     cells = r.cells;
@@ -59,7 +59,7 @@ module _ (system : System) (p : ℕ) (process : Process) (g : Guard) (inputs rec
   }
   body_goes r (s ∷ ss) h x =
       let one = goes r s h x.0 in
-      let rest = body_goes (after r one.cells one.sends) ss (record { fit = one.fit; heard = h.heard }) x.1 in
+      let rest = body_goes (after r one.cells one.sends) ss (record { fit = one.fit; given = h.given; heard = h.heard }) x.1 in
       let together = λ (choices : List ℤ). ap Some (joined (with_choices r choices) one.cells rest.cells one.sends rest.sends) in
       record {
         cells = rest.cells;

@@ -26,9 +26,9 @@ use Rattle.tap_exec.specs.Filling.{filled}
 use Rattle.tap_exec.specs.Value.{value_of}
 use Rattle.abstract_run.specs.Messages.{Receives}
 use Rattle.abstract_run.specs.Semantics.{action_semantics, guard_semantics, messages_of, process_semantics, semantics_of}
-use Rattle.small_limits.specs.Small.{HasReceiver, IsAtom, IsPlainSend, IsSmall, Ranges, Readable, SendFits, ValueFits, fields_of, free_range, ranges_in, readable}
-use Rattle.small_limits.proofs.AtomValues.{atom_valued, reads, value_in_range}
-use Rattle.small_limits.proofs.Goes.{Goes, Reads, after, exact, readable_here, with_choices}
+use Rattle.small_limits.specs.Small.{HasReceiver, IsAtom, IsPlainMessage, IsPlainSend, IsSmall, Ranges, Readable, SendFits, ValueFits, fields_of, free_range, ranges_in, readable}
+use Rattle.small_limits.proofs.AtomValues.{AreWithin, atom_valued, reads, value_in_range}
+use Rattle.small_limits.proofs.Goes.{Goes, Reads, after, exact, readable_here, with_choices, within_here}
 
 -- ---- fields that are not fixed
 
@@ -52,14 +52,14 @@ filled_free (f ∷ fs) (x ∷ xs) h e =
 
 -- ---- values
 
-values_fit : (cells inputs received : List ℤ) (ranges : Ranges) (fields : List Field) (es : List Expr) → AreIn ranges.cells cells → AreIn ranges.fields received
-    → Each (λ e. IsAtom (reads cells received) e.kind) es → EachBoth (λ f e. ValueFits ranges e (free_range f)) fields es
+values_fit : (cells inputs received : List ℤ) (ranges : Ranges) (fields : List Field) (es : List Expr) → AreWithin ranges cells inputs received
+    → Each (λ e. IsAtom (reads cells inputs received) e.kind) es → EachBoth (λ f e. ValueFits ranges e (free_range f)) fields es
     → AreIn (map free_range fields) (map (λ e. value_of e cells inputs received) es)
-values_fit cells inputs received ranges [] es within among atoms fit = tt
-values_fit cells inputs received ranges (f ∷ fs) [] within among atoms fit = tt
-values_fit cells inputs received ranges (f ∷ fs) (e ∷ es) within among atoms fit = (
-  value_in_range cells inputs received ranges e (free_range f) within among atoms.0 fit.0,
-  values_fit cells inputs received ranges fs es within among atoms.1 fit.1,
+values_fit cells inputs received ranges [] es within atoms fit = tt
+values_fit cells inputs received ranges (f ∷ fs) [] within atoms fit = tt
+values_fit cells inputs received ranges (f ∷ fs) (e ∷ es) within atoms fit = (
+  value_in_range cells inputs received ranges e (free_range f) within atoms.0 fit.0,
+  values_fit cells inputs received ranges fs es within atoms.1 fit.1,
 )
 
 -- ---- the message
@@ -81,7 +81,7 @@ declared_message system m x is = slice_get-map wire_fields system.messages m ∙
 
 -- ---- the statement
 
-each_valued : (inputs received : List ℤ) (messages : List (List WireField)) (r : Running) (es : List Expr) → Each (λ e. IsAtom (reads r.cells received) e.kind) es
+each_valued : (inputs received : List ℤ) (messages : List (List WireField)) (r : Running) (es : List Expr) → Each (λ e. IsAtom (reads r.cells inputs received) e.kind) es
     → each (value_in computed messages inputs received r) es ≡ Some (map (λ e. value_of e r.cells inputs received) es)
 each_valued inputs received messages r [] h = refl
 each_valued inputs received messages r (e ∷ es) h =
@@ -104,24 +104,24 @@ atoms_here : (n m : Readable) (es : List Expr) → n ≡ m → Each (λ e. IsAto
 atoms_here n m es same h = subst (λ x. Each (λ e. IsAtom x e.kind) es) same h
 
 pub send_goes : (system : System) (p : ℕ) (process : Process) (g : Guard) (inputs received : List ℤ) (r : Running) (m : ℕ) (es : List Expr) (q : ℕ) → IsSmall system
-    → Reads system process g received r.cells → IsPlainSend system (readable system process g) m es q
-    → SendFits (ranges_in system.messages process.vars g) (fields_of (slice_get system.messages m)) es → q ≢ p → HasReceiver system q m p
+    → Reads system process g inputs received r.cells → IsPlainSend system (readable system process g) m es q
+    → SendFits (ranges_in system.messages process g) (fields_of (slice_get system.messages m)) es → q ≢ p → HasReceiver system q m p
     → Goes system p process.vars 1 (exec computed (messages_of system) inputs received (stmt.Send m es q)) (exec exact (messages_of system) inputs received (stmt.Send m es q)) r
 send_goes system p process g inputs received r m es q small h plain within other receiver =
     let messages = messages_of system in
-    let ranges = ranges_in system.messages process.vars g in
+    let ranges = ranges_in system.messages process g in
     let numbers = map (λ (e : Expr). value_of e r.cells inputs received) es in
     let x = mapped (λ (x : Message). length x.fields) (slice_get system.messages m) (length es) plain.counted in
     let fields = x.0.fields in
-    let free = (each_at _ system.messages m x.0 small.messages x.1).1 in
-    let atoms = atoms_here (readable system process g) (reads r.cells received) es (readable_here system process g received r.cells h) plain.atoms in
+    let free = each_at IsPlainMessage system.messages m x.0 small.messages x.1 in
+    let atoms = atoms_here (readable system process g) (reads r.cells inputs received) es (readable_here system process g inputs received r.cells h) plain.atoms in
     let fit : EachBoth (λ f e. ValueFits ranges e (free_range f)) fields es = subst (λ u. SendFits ranges (fields_of u) es) x.1 within in
     let many : length numbers ≡ length fields = length-map es (λ (e : Expr). value_of e r.cells inputs received) ∙ sym x.2 in
     let declared = declared_message system m x.0 x.1 in
     let filling = filled_free fields numbers free (sym many) in
     let all : AreAllIn (map free_range fields) numbers = record {
       counted = many ∙ sym (length-map fields free_range);
-      within = values_fit r.cells inputs received ranges fields es h.fit.within h.heard.within atoms fit;
+      within = values_fit r.cells inputs received ranges fields es (within_here system process g inputs received r.cells h) atoms fit;
     } in
     record {
       cells = r.cells;

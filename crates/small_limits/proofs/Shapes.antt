@@ -18,8 +18,8 @@ use Rattle.tap_base.specs.declared.tree.ExprKind.TheOpen.{ExprKind-F}
 use Rattle.tap_base.specs.declared.tree.ExprKind.TheVariants as kind
 use Rattle.tap_base.specs.declared.tree.Stmt.{Stmt}
 use Rattle.tap_base.specs.Lists.{Each}
-use Rattle.small_limits.specs.Small.{Readable, IsAtom, IsTest, IsPlainAction, IsPlainGuard, IsPlainProcess, IsPlainStmt, IsPlainVar, IsSmall, StmtFits, free_range, fields_of, received_fields}
-use Rattle.tap_base.proofs.ListFacts.{each_first, each_second, each_both, empty}
+use Rattle.small_limits.specs.Small.{Readable, IsAtom, IsTest, IsPlainAction, IsPlainGuard, IsPlainInput, IsPlainProcess, IsPlainStmt, IsPlainVar, IsSmall, StmtFits, free_range, fields_of, var_ranges, ranges_in, readable, received_fields}
+use Rattle.tap_base.proofs.ListFacts.{each_first, each_second, each_both}
 use Rattle.small_limits.specs.declared.atoms.Reads.{Reads}
 use Rattle.small_limits.specs.inner.Fitting.{IsFittingAction, IsFittingProcess, IsFittingStmt, IsLinked, IsMeasured, IsShaped, IsWhole, ActionFits}
 
@@ -56,52 +56,52 @@ received_whole messages (guard.Receive m q) h = whole_at messages m h
 received_whole messages (guard.Timeout t) h = tt
 
 -- a plain statement whose values fit what can be read
-abbrev IsFitting : System → List Var → List Field → Stmt → Type 0
-IsFitting s vars fields stmt =
-    IsPlainStmt s vars (record { cells = length vars; fields = length fields }) stmt
-    × StmtFits s.messages (record { cells = map (λ v. v.range) vars; fields = map free_range fields }) stmt
+abbrev IsFitting : System → List Var → List Var → List Field → Stmt → Type 0
+IsFitting s vars inputs fields stmt =
+    IsPlainStmt s vars (record { cells = length vars; inputs = length inputs; fields = length fields }) stmt
+    × StmtFits s.messages (record { cells = var_ranges vars; inputs = var_ranges inputs; fields = map free_range fields }) stmt
 
-pub small_action : (r : Bool) (s : System) (p : Process) (a : Action) (reads : Reads) → reads.vars.now ≡ p.vars → reads.fields.now ≡ received_fields s.messages a.guard → IsPlainGuard s p a.guard → (IsTrue r ↔ Each (IsFittingStmt s reads) a.body) → IsTrue r ↔ IsFittingAction s p a
-small_action r s p a reads e q g h =
+pub small_action : (r : Bool) (s : System) (p : Process) (a : Action) (reads : Reads) → reads.vars.now ≡ p.vars → reads.inputs.now ≡ p.inputs → reads.fields.now ≡ received_fields s.messages a.guard
+    → IsPlainGuard p a.guard → (IsTrue r ↔ Each (IsFittingStmt s reads) a.body) → IsTrue r ↔ IsFittingAction s p a
+small_action r s p a reads e i q g h =
     let received = received_fields s.messages a.guard in
-    let P : List Var → Type 0 = λ z. IsTrue r ↔ Each (IsFitting s z reads.fields.now) a.body in
-    let Q : List Field → Type 0 = λ z. IsTrue r ↔ Each (IsFitting s p.vars z) a.body in
-    let k : IsTrue r ↔ Each (IsFitting s p.vars received) a.body = subst Q q (subst P e h) in
-    let One : Stmt → Type 0 = λ stmt. IsPlainStmt s p.vars (record { cells = length p.vars; fields = length received }) stmt in
-    let Two : Stmt → Type 0 = λ stmt. StmtFits s.messages (record { cells = map (λ v. v.range) p.vars; fields = map free_range received }) stmt in (
+    let P : List Var → Type 0 = λ z. IsTrue r ↔ Each (IsFitting s z reads.inputs.now reads.fields.now) a.body in
+    let Q : List Var → Type 0 = λ z. IsTrue r ↔ Each (IsFitting s p.vars z reads.fields.now) a.body in
+    let R : List Field → Type 0 = λ z. IsTrue r ↔ Each (IsFitting s p.vars p.inputs z) a.body in
+    let k : IsTrue r ↔ Each (IsFitting s p.vars p.inputs received) a.body = subst R q (subst Q i (subst P e h)) in
+    let One : Stmt → Type 0 = λ stmt. IsPlainStmt s p.vars (readable s p a.guard) stmt in
+    let Two : Stmt → Type 0 = λ stmt. StmtFits s.messages (ranges_in s.messages p a.guard) stmt in (
       λ t. ((g, each_first One Two a.body (k.0 t)), each_second One Two a.body (k.0 t)),
       λ w. k.1 (each_both One Two a.body w.0.1 w.1),
     )
 
-pub small_process : (r : Bool) (s : System) (p : Process) → length p.inputs ≡ 0 → p.timers ≡ 0 → Each IsPlainVar p.vars → (IsTrue r ↔ Each (IsFittingAction s p) p.actions) → IsTrue r ↔ IsFittingProcess s p
+pub small_process : (r : Bool) (s : System) (p : Process) → Each IsPlainInput p.inputs → p.timers ≡ 0 → Each IsPlainVar p.vars → (IsTrue r ↔ Each (IsFittingAction s p) p.actions) → IsTrue r ↔ IsFittingProcess s p
 small_process r s p i t v h = (
-  λ f. (record { no_inputs = empty p.inputs i; no_timers = t; vars = v; actions = each_first (IsPlainAction s p) (ActionFits s p.vars) p.actions (h.0 f) }, each_second (IsPlainAction s p) (ActionFits s p.vars) p.actions (h.0 f)),
-  λ a. h.1 (each_both (IsPlainAction s p) (ActionFits s p.vars) p.actions a.0.actions a.1),
+  λ f. (record { inputs = i; no_timers = t; vars = v; actions = each_first (IsPlainAction s p) (ActionFits s p) p.actions (h.0 f) }, each_second (IsPlainAction s p) (ActionFits s p) p.actions (h.0 f)),
+  λ a. h.1 (each_both (IsPlainAction s p) (ActionFits s p) p.actions a.0.actions a.1),
 )
 
 -- ---- systems
 
 pub measured_of : (s : System) → IsSmall s → IsMeasured s
-measured_of s h = record { some_process = h.some_process; limits = h.limits; short = h.short; ordered = h.ordered; whole = h.whole }
+measured_of s h = record { limits = h.limits; ordered = h.ordered; whole = h.whole }
 
 pub shaped_of : (s : System) → IsSmall s → IsShaped s
-shaped_of s h = (h.messages, each_both (IsPlainProcess s) (λ p. Each (ActionFits s p.vars) p.actions) s.processes h.plain h.fitting)
+shaped_of s h = (h.messages, each_both (IsPlainProcess s) (λ p. Each (ActionFits s p) p.actions) s.processes h.plain h.fitting)
 
 pub small_system : (r : Bool) (s : System) → IsMeasured s → IsShaped s → (IsTrue r ↔ IsLinked s) → IsTrue r ↔ IsSmall s
 small_system r s m q h = (
   λ t. let l = h.0 t in record {
-    some_process = m.some_process;
     messages = q.0;
-    plain = each_first (IsPlainProcess s) (λ p. Each (ActionFits s p.vars) p.actions) s.processes q.1;
+    plain = each_first (IsPlainProcess s) (λ p. Each (ActionFits s p) p.actions) s.processes q.1;
     distinct = l.distinct;
-    short = m.short;
     ordered = m.ordered;
     whole = m.whole;
     limits = m.limits;
     others = l.others;
     received = l.received;
     apart = l.apart;
-    fitting = each_second (IsPlainProcess s) (λ p. Each (ActionFits s p.vars) p.actions) s.processes q.1;
+    fitting = each_second (IsPlainProcess s) (λ p. Each (ActionFits s p) p.actions) s.processes q.1;
   },
   λ w. h.1 (record { distinct = w.distinct; others = w.others; received = w.received; apart = w.apart }),
 )

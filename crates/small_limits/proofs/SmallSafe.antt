@@ -1,7 +1,6 @@
--- Every system of the small language is safe, and needs no choice.
+-- Every small system is safe, and needs no choice.
 use Rattle.std.proofs.Common.{◌≡◌, ◌≤◌, ℕ, suc, ℤ, List, [], ◌∷◌, map, length, refl, sym, subst, ◌∙◌, slice_get, Some, arith}
 use Rattle.std.specs.Prelude.{IsSome}
-use Rattle.std.specs.Int.Signed.{≤ℤ_refl}
 use Rattle.std.proofs.lemmas.List.{length-map}
 use Rattle.tap_base.specs.declared.system.Action.{Action}
 use Rattle.tap_base.specs.declared.system.Guard.{Guard}
@@ -12,17 +11,17 @@ use Rattle.tap_base.specs.declared.system.Var.{Var}
 use Rattle.tap_base.specs.Interval.{IsIn}
 use Rattle.tap_base.specs.Lists.{Each, EachBoth}
 use Rattle.tap_base.specs.Ranges.{AreAllIn}
-use Rattle.tap_base.proofs.ListFacts.{each_both, each_map, each_weaker}
+use Rattle.tap_base.proofs.ListFacts.{each_map, each_weaker}
 use Rattle.tap_exec.specs.declared.running.Running.{Running}
 use Rattle.abstract_run.specs.inner.ComputedSemantics.{computed_action, computed_guard, computed_process, computed_semantics}
 use Rattle.abstract_run.specs.Progress.{NeedsNoChoice}
 use Rattle.abstract_run.specs.Safe.{Agrees, BeginsInRange, BodiesKeepRanges, IsBeginning, KeepsRange, SameAction, SameGuard, SameProcess, most_vars, tests, receives}
 use Rattle.abstract_run.specs.Semantics.{ProcessSemantics, action_semantics, guard_semantics, messages_of, process_semantics, semantics_of}
-use Rattle.small_limits.specs.Small.{IsPlainGuard, IsPlainProcess, IsPlainVar, IsSmall, IsTest, IsWithinLimits, Readable}
+use Rattle.small_limits.specs.Small.{IsPlainCondition, IsPlainGuard, IsPlainProcess, IsPlainVar, IsSmall, IsWithinLimits, Readable}
 use Rattle.small_limits.specs.SmallIsSafe.{SmallIsSafe}
-use Rattle.small_limits.proofs.AtomValues.{test_valued}
-use Rattle.small_limits.proofs.Goes.{after}
-use Rattle.small_limits.proofs.Standing.{Able, able, action_goes, each_action, plain_ranges}
+use Rattle.small_limits.proofs.AtomValues.{condition_valued}
+use Rattle.small_limits.proofs.Goes.{after, as_many}
+use Rattle.small_limits.proofs.Standing.{Able, able, action_goes, each_action, given_ranges, plain_ranges}
 
 -- ---- it begins within its ranges
 
@@ -31,9 +30,8 @@ BeginsIn vars = Each (λ (v : Var). IsIn v.initial v.range) vars
 
 begins_in : (system : System) → IsSmall system → Each (λ (p : Process). BeginsIn p.vars) system.processes
 begins_in system small =
-    each_weaker _ _ system.processes
-    (λ p h. each_weaker _ _ p.vars (λ v k. subst (λ x. IsIn x v.range) (sym k.0.1) (≤ℤ_refl v.range.lo, k.1)) (each_both IsPlainVar _ p.vars h.0.vars h.1))
-    (each_both (IsPlainProcess system) _ system.processes small.plain small.ordered)
+    each_weaker (IsPlainProcess system) (λ (p : Process). BeginsIn p.vars) system.processes
+    (λ p h. each_weaker IsPlainVar (λ (v : Var). IsIn v.initial v.range) p.vars (λ v k. k.1) h.vars) small.plain
 
 begins : (system : System) → IsSmall system → BeginsInRange (semantics_of system)
 begins system small =
@@ -93,11 +91,13 @@ both_mapped : {A B C : Type 0} (R : B → C → Type 0) (f : A → B) (g : A →
 both_mapped R f g [] h = tt
 both_mapped R f g (x ∷ xs) h = (h 0 x refl, both_mapped R f g xs (λ k. h (suc k)))
 
-guard_same : (system : System) (process : Process) (g : Guard) → Each IsPlainVar process.vars → IsPlainGuard system process g
+guard_same : (system : System) (process : Process) (g : Guard) → Each IsPlainVar process.vars → IsPlainGuard process g
     → SameGuard (process_semantics (messages_of system) process) (computed_guard g) (guard_semantics g)
 guard_same system process (guard.Local e) vars h = tests (λ cells inputs within given.
-    let many : length process.vars ≡ length cells = sym (within.counted ∙ subst (λ rs. length rs ≡ length process.vars) (sym (plain_ranges process.vars vars)) (length-map process.vars (λ v. v.range))) in
-    let valued = test_valued cells inputs [] e (subst (λ n. let r : Readable = record { cells = n; fields = 0 } in IsTest r e.kind) many h) in
+    let many = as_many process.vars cells (subst (λ ranges. AreAllIn ranges cells) (plain_ranges process.vars vars) within) in
+    let counted = as_many process.inputs inputs (subst (λ ranges. AreAllIn ranges inputs) (given_ranges process.inputs) given) in
+    let some : IsPlainCondition (record { cells = length cells; inputs = length process.inputs; fields = 0 }) e.kind = subst (λ n. let r : Readable = record { cells = n; inputs = length process.inputs; fields = 0 } in IsPlainCondition r e.kind) many h in
+    let valued = condition_valued cells inputs [] e (subst (λ n. let r : Readable = record { cells = length cells; inputs = n; fields = 0 } in IsPlainCondition r e.kind) counted some) in
     rw valued refl)
 guard_same system process (guard.Receive m q) vars h = receives
 guard_same system process (guard.Timeout t) vars h = absurd h

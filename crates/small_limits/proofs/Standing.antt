@@ -1,5 +1,5 @@
 -- The actions of a small system, by their numbers, and what their bodies begin with.
-use Rattle.std.proofs.Common.{◌≡◌, ◌≤◌, ℕ, ℤ, List, [], ◌∷◌, map, length, refl, sym, subst, ◌∙◌, slice_get, Some}
+use Rattle.std.proofs.Common.{◌≡◌, ◌≤◌, ℕ, ℤ, List, [], ◌∷◌, map, length, refl, ap, sym, subst, ◌∙◌, slice_get, Some}
 use Rattle.std.proofs.lemmas.Option.{slice_get-map}
 use Rattle.tap_base.specs.declared.system.Action.{Action}
 use Rattle.tap_base.specs.declared.system.Guard.{Guard}
@@ -18,10 +18,10 @@ use Rattle.tap_exec.specs.Execution.{exec_all}
 use Rattle.tap_exec.specs.Filling.{wire_fields}
 use Rattle.abstract_run.specs.Messages.{AreReceived}
 use Rattle.abstract_run.specs.Safe.{IsBeginning}
-use Rattle.abstract_run.specs.Semantics.{ActionSemantics, ProcessSemantics, action_semantics, guard_semantics, messages_of, process_semantics, semantics_of}
-use Rattle.small_limits.specs.Small.{GuardIsOfOther, IsPlainAction, IsPlainGuard, IsPlainProcess, IsPlainVar, IsSmall, IsWithinLimits, StmtFits, StmtIsReceived, StmtIsToOther, fields_of, free_range, ranges_in, received_fields}
+use Rattle.abstract_run.specs.Semantics.{ActionSemantics, InputSemantics, ProcessSemantics, action_semantics, guard_semantics, input_semantics, messages_of, process_semantics, semantics_of}
+use Rattle.small_limits.specs.Small.{GuardIsOfOther, IsPlainAction, IsPlainGuard, IsPlainMessage, IsPlainProcess, IsPlainVar, IsSmall, IsWithinLimits, StmtFits, StmtIsReceived, StmtIsToOther, fields_of, free_range, var_ranges, ranges_in, received_fields}
 use Rattle.small_limits.proofs.BodyGoes.{Allowed, body_goes}
-use Rattle.small_limits.proofs.Goes.{Goes, exact, ranges_by}
+use Rattle.small_limits.proofs.Goes.{Goes, exact}
 use Rattle.small_limits.proofs.SendGoes.{frees_same}
 
 -- ---- by number
@@ -52,7 +52,7 @@ pub record Able (system : System) (p : ℕ) (process : Process) (action : Action
   pub few : length action.body ≤ 64
 
 abbrev BodiesFit : System → Process → Type 0
-BodiesFit system process = Each (λ a. Each (StmtFits system.messages (ranges_in system.messages process.vars a.guard)) a.body) process.actions
+BodiesFit system process = Each (λ a. Each (StmtFits system.messages (ranges_in system.messages process a.guard)) a.body) process.actions
 
 abbrev AreToOthers : ℕ → Process → Type 0
 AreToOthers p process = Each (λ a. GuardIsOfOther p a.guard × Each (StmtIsToOther p) a.body) process.actions
@@ -65,7 +65,7 @@ pub able : (system : System) (p a : ℕ) (process : Process) (action : Action) �
 able system p a process action small there is =
     let is_plain = each_at (IsPlainProcess system) system.processes p process small.plain there in
     let plain = each_at (IsPlainAction system process) process.actions a action is_plain.actions is in
-    let fits = each_at (λ (x : Action). Each (StmtFits system.messages (ranges_in system.messages process.vars x.guard)) x.body) process.actions a action
+    let fits = each_at (λ (x : Action). Each (StmtFits system.messages (ranges_in system.messages process x.guard)) x.body) process.actions a action
     (each_at (BodiesFit system) system.processes p process small.fitting there) is in
     let others = each_at (λ (x : Action). GuardIsOfOther p x.guard × Each (StmtIsToOther p) x.body) process.actions a action
     (numbered_at AreToOthers system.processes p process small.others there) is in
@@ -80,17 +80,21 @@ able system p a process action small there is =
 
 -- ---- what a body begins with
 
-pub plain_ranges : (vars : List Var) → Each IsPlainVar vars → ranges_of vars ≡ ranges_by vars
+pub plain_ranges : (vars : List Var) → Each IsPlainVar vars → ranges_of vars ≡ var_ranges vars
 plain_ranges [] h = refl
 plain_ranges (v ∷ vs) h = let one : v.cells ≡ 1 = h.0.0 in let more = plain_ranges vs h.1 in rw (one, more) refl
 
-heard : (system : System) (process : Process) (g : Guard) (values : List ℤ) → IsSmall system → IsPlainGuard system process g → AreReceived (messages_of system) (guard_semantics g) values
+pub given_ranges : (inputs : List Var) → map (λ (i : InputSemantics). i.range) (map input_semantics inputs) ≡ var_ranges inputs
+given_ranges [] = refl
+given_ranges (v ∷ vs) = ap (λ ranges. v.range ∷ ranges) (given_ranges vs)
+
+heard : (system : System) (process : Process) (g : Guard) (values : List ℤ) → IsSmall system → IsPlainGuard process g → AreReceived (messages_of system) (guard_semantics g) values
     → AreAllIn (map free_range (received_fields system.messages g)) values
 heard system process (guard.Local e) values small plain h = subst (λ xs. AreAllIn [] xs) (sym h) (record { counted = refl; within = tt })
 heard system process (guard.Timeout t) values small plain h = absurd plain
 heard system process (guard.Receive m q) values small plain h =
     let x = mapped_from wire_fields system.messages m h.fields h.declared in
-    let free = (each_at _ system.messages m x.0 small.messages x.1).1 in
+    let free = each_at IsPlainMessage system.messages m x.0 small.messages x.1 in
     let fitting : AreAllIn (map field_range (wire_fields x.0)) values = subst (λ fields. AreAllIn (map field_range fields) values) (sym x.2) h.fitting in
     subst (λ o. AreAllIn (map free_range (fields_of o)) values) (sym x.1) (subst (λ ranges. AreAllIn ranges values) (frees_same x.0.fields free) fitting)
 
@@ -100,4 +104,5 @@ module _ (system : System) (p : ℕ) (process : Process) (action : Action) (smal
   pub action_goes : Goes system p process.vars (length action.body) (exec_all computed (messages_of system) inputs received action.body) (exec_all exact (messages_of system) inputs received action.body) r
   action_goes =
       let fit = subst (λ ranges. AreAllIn ranges r.cells) (plain_ranges process.vars x.vars) begin.running.cells in
-      body_goes system p process action.guard inputs received small r action.body (record { fit = fit; heard = heard system process action.guard received small x.plain.0 begin.heard }) x.allowed
+      let given = subst (λ ranges. AreAllIn ranges inputs) (given_ranges process.inputs) begin.given in
+      body_goes system p process action.guard inputs received small r action.body (record { fit = fit; given = given; heard = heard system process action.guard received small x.plain.0 begin.heard }) x.allowed

@@ -1,5 +1,6 @@
--- The systems of the small language: local and receive actions that skip, assign and send.
-use Rattle.std.specs.Prelude.{◌≡◌, ◌≢◌, ℕ, ◌<◌, ◌≤◌, ◌%◌, ◌^◌, ◌≤ℤ◌, ◌-ℤ◌, pos, length, map, sum, ◌++◌, List, [], ◌∷◌, Option, Some, None, slice_get}
+-- The systems that can be run so far, the small ones: their actions are local ones and receive ones, which skip, assign
+-- atoms and send atoms.
+use Rattle.std.specs.Prelude.{◌≡◌, ◌≢◌, ◌⊎◌, ℕ, ◌<◌, ◌≤◌, ◌%◌, ◌^◌, ◌≤ℤ◌, ◌-ℤ◌, pos, length, map, sum, ◌++◌, List, [], ◌∷◌, Option, Some, None, slice_get}
 use Rattle.std.specs.Option.{option_map}
 use Rattle.tap_base.specs.declared.place.Range.{Range}
 use Rattle.tap_base.specs.declared.system.System.{System}
@@ -17,20 +18,22 @@ use Rattle.tap_base.specs.declared.tree.ExprKind.TheVariants as kind
 use Rattle.tap_base.specs.declared.tree.Target.{Target}
 use Rattle.tap_base.specs.declared.tree.Stmt.{Stmt}
 use Rattle.tap_base.specs.declared.tree.Stmt.TheVariants as stmt
-use Rattle.tap_base.specs.Interval.{interval_of, from_to, IsWithin}
+use Rattle.tap_base.specs.Interval.{interval_of, from_to, IsIn, IsWithin}
 use Rattle.tap_base.specs.Lists.{Each, EachBoth, EachFrom, AreDistinct}
 
--- ---- shape: what the small grammar can write
+-- ---- shape: what can be run so far
 
--- so many cells, and so many fields of what is received
+-- so many cells, so many inputs, and so many fields of what is received
 pub record Readable : Type 0 where
   pub cells : ℕ
+  pub inputs : ℕ
   pub fields : ℕ
 
--- a number, one of the cells, or one of the received fields
+-- a number, one of the cells, one of the inputs, or one of the received fields
 abbrev pub IsAtom : Readable → ExprKind → Type 0
 IsAtom r (kind.Number n) = Unit {0}
 IsAtom r (kind.Cell k) = k < r.cells
+IsAtom r (kind.Input k) = k < r.inputs
 IsAtom r (kind.Part k) = k < r.fields
 IsAtom r _ = ⊥
 
@@ -42,11 +45,19 @@ pub record IsTest (r : Readable) (k : ExprKind) : Type 0 where
   pub left_atom : IsAtom r left.kind
   pub right_atom : IsAtom r right.kind
 
--- a test that reads cells alone, or a message and a process that there are
-abbrev pub IsPlainGuard : System → Process → Guard → Type 0
-IsPlainGuard s p (guard.Local e) = IsTest (record { cells = length p.vars; fields = 0 }) e.kind
-IsPlainGuard s p (guard.Receive m q) = (m < length s.messages) × (q < length s.processes)
-IsPlainGuard s p _ = ⊥
+-- a test, or one atom: a guard holds where its value is 1
+abbrev pub IsPlainCondition : Readable → ExprKind → Type 0
+IsPlainCondition r k = IsTest r k ⊎ IsAtom r k
+
+-- what a guard can test
+abbrev pub testable : Process → Readable
+testable p = record { cells = length p.vars; inputs = length p.inputs; fields = 0 }
+
+-- a condition of cells and inputs alone, or a guard that receives
+abbrev pub IsPlainGuard : Process → Guard → Type 0
+IsPlainGuard p (guard.Local e) = IsPlainCondition (testable p) e.kind
+IsPlainGuard p (guard.Receive m q) = Unit {0}
+IsPlainGuard p _ = ⊥
 
 abbrev pub fields_of : Option Message → List Field
 fields_of None = []
@@ -59,7 +70,7 @@ received_fields messages _ = []
 
 -- what the body of an action can read
 abbrev pub readable : System → Process → Guard → Readable
-readable s p g = record { cells = length p.vars; fields = length (received_fields s.messages g) }
+readable s p g = record { cells = length p.vars; inputs = length p.inputs; fields = length (received_fields s.messages g) }
 
 -- one whole variable, by its number and its range
 abbrev pub IsPlainTarget : List Var → Target → Type 0
@@ -82,44 +93,42 @@ IsPlainStmt s vars r (stmt.Send m values q) = IsPlainSend s r m values q
 IsPlainStmt s vars r _ = ⊥
 
 abbrev pub IsPlainAction : System → Process → Action → Type 0
-IsPlainAction s p a = IsPlainGuard s p a.guard × Each (IsPlainStmt s p.vars (readable s p a.guard)) a.body
+IsPlainAction s p a = IsPlainGuard p a.guard × Each (IsPlainStmt s p.vars (readable s p a.guard)) a.body
 
--- one cell, which starts at the least value of its range
+-- one cell
+abbrev pub IsPlainInput : Var → Type 0
+IsPlainInput v = v.cells ≡ 1
+
+-- one cell, which starts within its range
 abbrev pub IsPlainVar : Var → Type 0
-IsPlainVar v = (v.cells ≡ 1) × (v.initial ≡ v.range.lo)
+IsPlainVar v = (v.cells ≡ 1) × IsIn v.initial v.range
 
 pub record IsPlainProcess (s : System) (p : Process) : Type 0 where
-  pub no_inputs : p.inputs ≡ []
+  pub inputs : Each IsPlainInput p.inputs
   pub no_timers : p.timers ≡ 0
   pub vars : Each IsPlainVar p.vars
   pub actions : Each (IsPlainAction s p) p.actions
 
--- some fields, and none with a fixed value
+-- no field with a fixed value
 abbrev pub IsPlainMessage : Message → Type 0
-IsPlainMessage m = (1 ≤ length m.fields) × Each (λ f. f.fixed ≡ None) m.fields
+IsPlainMessage m = Each (λ f. f.fixed ≡ None) m.fields
 
--- ---- the sentences that limit the language
+-- ---- limits
 
--- Messages and processes have names of their own, and so have the fields of each message and the variables of each
--- process.
+-- Messages and processes have names of their own, and so have the fields of each message, and the inputs and variables
+-- of each process.
 abbrev pub NamesAreDistinct : System → Type 0
 NamesAreDistinct s =
     AreDistinct (map (λ m. m.name) s.messages ++ map (λ p. p.name) s.processes)
     × Each (λ m. AreDistinct (map (λ f. f.name) m.fields)) s.messages
-    × Each (λ p. AreDistinct (map (λ v. v.name) p.vars)) s.processes
+    × Each (λ p. AreDistinct (map (λ v. v.name) p.inputs ++ map (λ v. v.name) p.vars)) s.processes
 
-abbrev pub IsShort : List ℕ → Type 0
-IsShort name = length name ≤ 64
+abbrev pub IsOrdered : Var → Type 0
+IsOrdered v = v.range.lo ≤ℤ v.range.hi
 
--- A name has at most 64 bytes.
-abbrev pub NamesAreShort : System → Type 0
-NamesAreShort s =
-    Each (λ m. IsShort m.name × Each (λ f. IsShort f.name) m.fields) s.messages
-    × Each (λ p. IsShort p.name × Each (λ v. IsShort v.name) p.vars) s.processes
-
--- A variable's low bound is at most its high bound.
+-- The low bound of an input or a variable is at most its high bound.
 abbrev pub BoundsAreOrdered : System → Type 0
-BoundsAreOrdered s = Each (λ p. Each (λ v. v.range.lo ≤ℤ v.range.hi) p.vars) s.processes
+BoundsAreOrdered s = Each (λ p. Each IsOrdered p.inputs × Each IsOrdered p.vars) s.processes
 
 -- The width of a field is a multiple of 8, from 8 to 56.
 abbrev pub WidthsAreWhole : System → Type 0
@@ -130,10 +139,10 @@ abbrev pub bits_of : Message → ℕ
 bits_of m = sum (map (λ f. f.width) m.fields)
 
 abbrev pub IsWithinLimits : Process → Type 0
-IsWithinLimits p = (length p.vars ≤ 4096) × (length p.actions ≤ 256) × Each (λ a. length a.body ≤ 64) p.actions
+IsWithinLimits p = (length p.vars ≤ 4096) × (length p.actions ≤ 256) × Each (λ a. length a.body ≤ 64) p.actions × (length p.inputs ≤ 256)
 
 -- At most 256 messages, each with at most 256 fields and 8,192 bits; at most 64 processes, each with at most 4,096
--- variable cells, 256 actions and 64 statements an action.
+-- variable cells, 256 actions with 64 statements each, and 256 inputs.
 abbrev pub LimitsAreKept : System → Type 0
 LimitsAreKept s =
     (length s.messages ≤ 256) × Each (λ m. (length m.fields ≤ 256) × (bits_of m ≤ 8192)) s.messages
@@ -190,11 +199,12 @@ IntervalIsWithin (Some a) range = IsWithin a range
 -- the ranges of what an expression can read
 pub record Ranges : Type 0 where
   pub cells : List Range
+  pub inputs : List Range
   pub fields : List Range
 
 -- the interval of the value is within a range
 abbrev pub ValueFits : Ranges → Expr → Range → Type 0
-ValueFits r e range = IntervalIsWithin (interval_of e r.cells [] r.fields) range
+ValueFits r e range = IntervalIsWithin (interval_of e r.cells r.inputs r.fields) range
 
 abbrev pub AssignmentFits : Ranges → List Target → List Expr → Type 0
 AssignmentFits r (t ∷ []) (e ∷ []) = ValueFits r e t.range
@@ -208,21 +218,23 @@ StmtFits messages r (stmt.Assign targets values) = AssignmentFits r targets valu
 StmtFits messages r (stmt.Send m values q) = SendFits r (fields_of (slice_get messages m)) values
 StmtFits messages r _ = Unit {0}
 
+-- one range for each input or variable
+abbrev pub var_ranges : List Var → List Range
+var_ranges vars = map (λ v. v.range) vars
+
 -- the ranges of what the body of an action can read
-abbrev pub ranges_in : List Message → List Var → Guard → Ranges
-ranges_in messages vars g = record { cells = map (λ v. v.range) vars; fields = map free_range (received_fields messages g) }
+abbrev pub ranges_in : List Message → Process → Guard → Ranges
+ranges_in messages p g = record { cells = var_ranges p.vars; inputs = var_ranges p.inputs; fields = map free_range (received_fields messages g) }
 
 -- A value's interval lies within its target or its field.
 abbrev pub ValuesFit : System → Type 0
-ValuesFit s = Each (λ p. Each (λ a. Each (StmtFits s.messages (ranges_in s.messages p.vars a.guard)) a.body) p.actions) s.processes
+ValuesFit s = Each (λ p. Each (λ a. Each (StmtFits s.messages (ranges_in s.messages p a.guard)) a.body) p.actions) s.processes
 
--- A system of the small language.
+-- A system that can be run so far.
 pub record IsSmall (s : System) : Type 0 where
-  pub some_process : 1 ≤ length s.processes
   pub messages : Each IsPlainMessage s.messages
   pub plain : Each (IsPlainProcess s) s.processes
   pub distinct : NamesAreDistinct s
-  pub short : NamesAreShort s
   pub ordered : BoundsAreOrdered s
   pub whole : WidthsAreWhole s
   pub limits : LimitsAreKept s

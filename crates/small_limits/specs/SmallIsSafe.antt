@@ -1,4 +1,4 @@
--- What is so of every system of the small language.
+-- What is so of every small system.
 use Rattle.std.specs.Prelude.{◌≤◌}
 use Rattle.tap_base.specs.declared.system.System.{System}
 use Rattle.tap_base.specs.Lists.{Each}

@@ -1,26 +1,26 @@
-//! Bounds of variables, and widths of fields.
+//! Bounds of inputs and variables, and widths of fields.
 
-ghost use Rattle.std.specs.Prelude.{◌↔◌, ◌≤ℤ◌, IsTrue};
+ghost use Rattle.std.specs.Prelude.{◌↔◌, IsTrue};
 ghost use Rattle.tap_base.specs.Lists.{Each};
-ghost use Rattle.small_limits.specs.Small.{BoundsAreOrdered, WidthsAreWhole};
+ghost use Rattle.small_limits.specs.Small.{BoundsAreOrdered, IsOrdered, WidthsAreWhole};
 ghost use Rattle.small_limits.specs.inner.Fitting.{IsWhole};
 
 use tap_base::{Field, System, Var};
 
-/// Whether the low bound of each variable is at most its high bound.
+/// Whether the low bound of each input and of each variable is at most its high bound.
 pub fn bounds_are_ordered(system: &System) -> bool
     ensures { IsTrue result ↔ BoundsAreOrdered system.now }
 {
     'processes: for process in system.processes.as_slice() {
-        if !var_bounds_are_ordered(process.vars.as_slice()) {
+        if !are_ordered(process.inputs.as_slice()) || !are_ordered(process.vars.as_slice()) {
             return false;
         }
     }
     true
 }
 
-fn var_bounds_are_ordered(vars: &[Var]) -> bool
-    ensures { IsTrue result ↔ Each (λ v. v.range.lo ≤ℤ v.range.hi) vars.now }
+fn are_ordered(vars: &[Var]) -> bool
+    ensures { IsTrue result ↔ Each IsOrdered vars.now }
 {
     'vars: for var in vars {
         if var.range.lo > var.range.hi {

@@ -57,6 +57,7 @@ fn is_within_limits(process: &Process) -> bool
     process.vars.len() <= 4096
         && process.actions.len() <= 256
         && bodies_are_short(process.actions.as_slice())
+        && process.inputs.len() <= 256
 }
 
 fn bodies_are_short(actions: &[Action]) -> bool

@@ -8,8 +8,8 @@ ghost use Rattle.small_limits.specs.inner.Apart.{AreNoneOf};
 use crate::named::Named;
 use tap_base::{Message, Process, System};
 
-/// Whether messages and processes have names of their own, and so have the fields of each message
-/// and the variables of each process.
+/// Whether messages and processes have names of their own, and so have the fields of each message,
+/// and the inputs and variables of each process.
 pub fn names_are_distinct(system: &System) -> bool
     ensures { IsTrue result ↔ NamesAreDistinct system.now }
 {
@@ -20,18 +20,17 @@ pub fn names_are_distinct(system: &System) -> bool
         && var_names_are_distinct(processes)
 }
 
-/// Whether messages and processes have names of their own.
-fn are_apart(messages: &[Message], processes: &[Process]) -> bool
-    ensures { IsTrue result
-        ↔ AreDistinct (map (λ m. m.name) messages.now ++ map (λ p. p.name) processes.now) }
+/// Whether no two of all of them have one name.
+fn are_apart<T: Named, U: Named>(items: &[T], others: &[U]) -> bool
+    ensures { IsTrue result ↔ AreDistinct (map T.name_of items.now ++ map U.name_of others.now) }
 {
-    if !are_distinct(messages) {
+    if !are_distinct(items) {
         return false;
     }
-    if !are_distinct(processes) {
+    if !are_distinct(others) {
         return false;
     }
-    are_none_of(messages, processes)
+    are_none_of(items, others)
 }
 
 fn field_names_are_distinct(messages: &[Message]) -> bool
@@ -48,10 +47,11 @@ fn field_names_are_distinct(messages: &[Message]) -> bool
 
 fn var_names_are_distinct(processes: &[Process]) -> bool
     ensures { IsTrue result
-        ↔ Each (λ p. AreDistinct (map (λ v. v.name) p.vars)) processes.now }
+        ↔ Each (λ p. AreDistinct (map (λ v. v.name) p.inputs ++ map (λ v. v.name) p.vars))
+        processes.now }
 {
     'processes: for process in processes {
-        if !are_distinct(process.vars.as_slice()) {
+        if !are_apart(process.inputs.as_slice(), process.vars.as_slice()) {
             return false;
         }
     }
@@ -71,12 +71,11 @@ fn are_distinct<T: Named>(items: &[T]) -> bool
 }
 
 /// Whether none of the first has the name of one of the others.
-fn are_none_of(messages: &[Message], processes: &[Process]) -> bool
-    ensures { IsTrue result
-        ↔ AreNoneOf (map (λ m. m.name) messages.now) (map (λ p. p.name) processes.now) }
+fn are_none_of<T: Named, U: Named>(items: &[T], others: &[U]) -> bool
+    ensures { IsTrue result ↔ AreNoneOf (map T.name_of items.now) (map U.name_of others.now) }
 {
-    'messages: for message in messages {
-        if !is_none_of(message.name.as_str(), processes) {
+    'items: for item in items {
+        if !is_none_of(item.name(), others) {
             return false;
         }
     }

@@ -1,9 +1,9 @@
-//! What is so of every system of the small language.
+//! What is so of every small system.
 
 ghost use Rattle.small_limits.specs.SmallIsSafe.{SmallIsNarrow, SmallIsSafe};
 
-/// A system of the small language begins within its ranges and keeps them, 64-bit numbers compute
-/// it, and its actions need no choices.
+/// A small system begins within its ranges and keeps them, 64-bit numbers compute it, and its
+/// actions need no choices.
 pub fn small_is_safe()
     ensures { SmallIsSafe }
 {}

@@ -1,4 +1,4 @@
-//! The limits of the small language: which systems are of it, and what is so of each.
+//! Which systems can be run so far, and what is so of each of them.
 #![tactic(auto)]
 
 mod apart;
@@ -12,7 +12,6 @@ mod named;
 mod peers;
 mod plain;
 mod receivers;
-mod short;
 mod stmts;
 
 pub use laws::{small_is_narrow, small_is_safe};

@@ -1,4 +1,4 @@
-//! Whether a system is one of the small language.
+//! Whether a system is one that can be run so far.
 
 ghost use Rattle.std.specs.Prelude.{◌↔◌, IsTrue};
 ghost use Rattle.small_limits.specs.Small.{IsSmall};
@@ -11,11 +11,18 @@ use crate::distinct::names_are_distinct;
 use crate::peers::peers_are_others;
 use crate::plain::{messages_are_plain, processes_are_plain};
 use crate::receivers::sends_are_received;
-use crate::short::names_are_short;
 use tap_base::System;
 
-/// Whether a system is one of the small language. Counts are judged first, so that names are
-/// compared in pairs only where there are few.
+/// Whether a system is one that can be run so far: a small one.
+///
+/// It has no timers, no arrays and no fixed fields; fields have whole bytes, 56 bits at most. Each
+/// variable starts within its range. A value is an atom, which is a number, a cell, an input or a
+/// received field, and its interval lies within the range of what it is written to. A local guard
+/// is an atom, or compares two by `=`. A body has 64 statements at most, each of which skips,
+/// assigns one value to one variable, or sends. Messages that are received from one peer differ in
+/// length.
+///
+/// Counts are judged first, so that names are compared in pairs only where there are few.
 pub fn is_small(system: &System) -> bool
     ensures { IsTrue result ↔ IsSmall system.now }
 {
@@ -28,18 +35,14 @@ pub fn is_small(system: &System) -> bool
     is_linked(system)
 }
 
-/// Whether there are processes, and counts, names, bounds and widths keep their limits.
+/// Whether counts, bounds and widths keep their limits.
 fn is_measured(system: &System) -> bool
     ensures { IsTrue result ↔ IsMeasured system.now }
 {
-    system.processes.len() > 0
-        && limits_are_kept(system)
-        && names_are_short(system)
-        && bounds_are_ordered(system)
-        && widths_are_whole(system)
+    limits_are_kept(system) && bounds_are_ordered(system) && widths_are_whole(system)
 }
 
-/// Whether the small grammar can write the system, and values fit.
+/// Whether messages and processes are plain, and values fit.
 fn is_shaped(system: &System) -> bool
     requires { IsMeasured system.now }
     ensures { IsTrue result ↔ IsShaped system.now }

@@ -1,20 +1,20 @@
-//! What the small grammar can write, with values that fit.
+//! Plain messages and processes, with values that fit.
 
 ghost use Rattle.std.specs.Prelude.{◌↔◌, ◌≡◌, None, IsTrue};
 ghost use Rattle.tap_base.specs.Lists.{Each};
-ghost use Rattle.small_limits.specs.Small.{IsPlainGuard, IsPlainMessage, IsPlainVar, IsTest, WidthsAreWhole, received_fields};
-ghost use Rattle.small_limits.specs.inner.Fitting.{IsFittingAction, IsFittingProcess, cells_of};
+ghost use Rattle.small_limits.specs.Small.{IsPlainCondition, IsPlainGuard, IsPlainInput, IsPlainMessage, IsPlainVar, IsTest, WidthsAreWhole, received_fields, testable};
+ghost use Rattle.small_limits.specs.inner.Fitting.{IsFittingAction, IsFittingProcess, readable_of};
 
 use crate::atoms::{Reads, is_atom};
 use crate::stmts::are_plain_stmts;
 use tap_base::{Action, ExprKind, Field, Guard, Message, Op, Process, System, Var, item};
 
-/// Whether each message has fields, none of them with a fixed value.
+/// Whether no field has a fixed value.
 pub fn messages_are_plain(messages: &[Message]) -> bool
     ensures { IsTrue result ↔ Each IsPlainMessage messages.now }
 {
     'messages: for message in messages {
-        if message.fields.len() == 0 || !are_free(message.fields.as_slice()) {
+        if !are_free(message.fields.as_slice()) {
             return false;
         }
     }
@@ -32,7 +32,7 @@ fn are_free(fields: &[Field]) -> bool
     true
 }
 
-/// Whether each process is one that the small grammar can write, and each value fits.
+/// Whether each process is plain, and each value fits.
 pub fn processes_are_plain(system: &System) -> bool
     requires { WidthsAreWhole system.now }
     ensures { IsTrue result ↔ Each (IsFittingProcess system.now) system.now.processes }
@@ -49,7 +49,7 @@ fn is_plain_process(system: &System, process: &Process) -> bool
     requires { WidthsAreWhole system.now }
     ensures { IsTrue result ↔ IsFittingProcess system.now process.now }
 {
-    if process.inputs.len() != 0 || process.timers != 0 {
+    if process.timers != 0 || !are_plain_inputs(process.inputs.as_slice()) {
         return false;
     }
     if !are_plain_vars(process.vars.as_slice()) {
@@ -58,11 +58,22 @@ fn is_plain_process(system: &System, process: &Process) -> bool
     are_plain_actions(system, process)
 }
 
+fn are_plain_inputs(inputs: &[Var]) -> bool
+    ensures { IsTrue result ↔ Each IsPlainInput inputs.now }
+{
+    'inputs: for input in inputs {
+        if input.cells != 1 {
+            return false;
+        }
+    }
+    true
+}
+
 fn are_plain_vars(vars: &[Var]) -> bool
     ensures { IsTrue result ↔ Each IsPlainVar vars.now }
 {
     'vars: for var in vars {
-        if var.cells != 1 || var.initial != var.range.lo {
+        if var.cells != 1 || var.initial < var.range.lo || var.initial > var.range.hi {
             return false;
         }
     }
@@ -86,38 +97,50 @@ fn is_plain_action(system: &System, process: &Process, action: &Action) -> bool
     requires { WidthsAreWhole system.now }
     ensures { IsTrue result ↔ IsFittingAction system.now process.now action.now }
 {
-    if !is_plain_guard(system, process, &action.guard) {
+    if !is_plain_guard(process, &action.guard) {
         return false;
     }
     let reads = Reads {
         vars: process.vars.as_slice(),
+        inputs: process.inputs.as_slice(),
         fields: received_fields(system.messages.as_slice(), &action.guard),
     };
     are_plain_stmts(system, &reads, action.body.as_slice())
 }
 
-fn is_plain_guard(system: &System, process: &Process, guard: &Guard) -> bool
-    ensures { IsTrue result ↔ IsPlainGuard system.now process.now guard.now }
+fn is_plain_guard(process: &Process, guard: &Guard) -> bool
+    ensures { IsTrue result ↔ IsPlainGuard process.now guard.now }
 {
     match guard {
-        Guard::Local(test) => is_test(process.vars.as_slice(), &test.kind),
-        Guard::Receive { message, from } => {
-            (*message as usize) < system.messages.len() && (*from as usize) < system.processes.len()
-        }
+        Guard::Local(condition) => is_condition(process, &condition.kind),
+        Guard::Receive {
+            message: _,
+            from: _,
+        } => true,
         Guard::Timeout { timer: _ } => false,
     }
 }
 
-fn is_test(vars: &[Var], kind: &ExprKind) -> bool
-    ensures { IsTrue result ↔ IsTest (cells_of vars.now) kind.now }
+fn is_condition(process: &Process, kind: &ExprKind) -> bool
+    ensures { IsTrue result ↔ IsPlainCondition (testable process.now) kind.now }
+{
+    let reads = Reads {
+        vars: process.vars.as_slice(),
+        inputs: process.inputs.as_slice(),
+        fields: &[],
+    };
+    is_test(&reads, kind) || is_atom(&reads, kind)
+}
+
+fn is_test(reads: &Reads, kind: &ExprKind) -> bool
+    ensures { IsTrue result ↔ IsTest (readable_of reads.now) kind.now }
 {
     match kind {
         ExprKind::Binary { op, left, right } => {
-            let reads = Reads { vars, fields: &[] };
-            if !is_equality(*op) || !is_atom(&reads, &left.get().kind) {
+            if !is_equality(*op) || !is_atom(reads, &left.get().kind) {
                 return false;
             }
-            is_atom(&reads, &right.get().kind)
+            is_atom(reads, &right.get().kind)
         }
         _ => false,
     }

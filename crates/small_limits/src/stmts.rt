@@ -1,4 +1,4 @@
-//! Statements that the small grammar can write, with values that fit.
+//! Plain statements, with values that fit.
 
 ghost use Rattle.std.specs.Prelude.{◌↔◌, IsTrue};
 ghost use Rattle.tap_base.specs.Lists.{Each};

@@ -1,4 +1,9 @@
+pub mod DistinctFacts
+pub mod GatheredFacts
 pub mod ListFacts
+pub mod LoopFacts
+pub mod NumberFacts
+pub mod OffenceFacts
 pub mod OptionFacts
 pub mod RangeFacts
 pub mod WordFacts

@@ -5,7 +5,7 @@ use Rattle.std.specs.List.{list_any}
 use Rattle.std.specs.Option.{option_map}
 use Rattle.std.proofs.lemmas.List.{drop-drop, drop_more}
 use Rattle.std.proofs.lemmas.Option.{none-some, same_Some, slice_get_within, get_or_from_slice_get}
-use Rattle.tap_base.specs.Lists.{Each, EachBoth, EachFrom, AreDistinct}
+use Rattle.tap_base.specs.Lists.{Each, EachBoth, EachFrom}
 use Rattle.tap_base.specs.Option.{is_yes}
 
 -- ---- each element
@@ -52,6 +52,10 @@ each_set P (y ∷ ys) (suc k) x h f = (h.0, each_set P ys k x h.1 f)
 pub each_append : {A : Type 0} (P : A → Type 0) (xs ys : List A) → Each P xs → Each P ys → Each P (xs ++ ys)
 each_append P [] ys h k = k
 each_append P (x ∷ xs) ys h k = (h.0, each_append P xs ys h.1 k)
+
+pub each_split : {A : Type 0} (P : A → Type 0) (xs ys : List A) → Each P (xs ++ ys) → Each P xs × Each P ys
+each_split P [] ys h = (tt, h)
+each_split P (x ∷ xs) ys h = let r = each_split P xs ys h.1 in ((h.0, r.0), r.1)
 
 pub each_more : {A : Type 0} (P : A → Type 0) (xs : List A) (x : A) → Each P xs → P x → Each P (xs ++ x ∷ [])
 each_more P xs x h k = each_append P xs (x ∷ []) h (k, tt)
@@ -135,12 +139,20 @@ pub both_map : {A B C : Type 0} (R : B → C → Type 0) (f : A → B) (g : A �
 both_map R f g P [] k h = tt
 both_map R f g P (x ∷ xs) k h = (k x h.0, both_map R f g P xs k h.1)
 
--- ---- no two equal
+-- ---- a list is empty exactly where both of its parts are
 
--- what stands behind in a list without equals has none
-pub distinct_behind : {A : Type 0} (xs ys : List A) → AreDistinct (xs ++ ys) → AreDistinct ys
-distinct_behind [] ys h = h
-distinct_behind (x ∷ xs) ys h = distinct_behind xs ys h.1
+pub none_both : {A : Type 0} (xs ys : List A) → xs ≡ [] → ys ≡ [] → xs ++ ys ≡ []
+none_both xs ys a b = ap (λ z. z ++ ys) a ∙ b
+
+pub both_empty : {A : Type 0} (xs ys : List A) → xs ++ ys ≡ [] → (xs ≡ []) × (ys ≡ [])
+both_empty [] ys e = (refl, e)
+both_empty (x ∷ xs) ys e = absurd cc
+
+pub none_first : {A : Type 0} (xs ys : List A) → xs ++ ys ≡ [] → xs ≡ []
+none_first xs ys e = (both_empty xs ys e).0
+
+pub none_second : {A : Type 0} (xs ys : List A) → xs ++ ys ≡ [] → ys ≡ []
+none_second xs ys e = (both_empty xs ys e).1
 
 -- ---- the element at a place
 

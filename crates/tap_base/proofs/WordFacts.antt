@@ -13,7 +13,7 @@ free_step true d r h = cc
 free_step false true r h = cc
 free_step false false r h = (refl, refl, h)
 
-unlike : (x y : ℕ) → (x == y) ≡ false → x ≢ y
+pub unlike : (x y : ℕ) → (x == y) ≡ false → x ≢ y
 unlike x y h same = let e = (Decides-eqb x y).1 same in cc
 
 pub free_word : (w : List ℕ) → is_free w ≡ true → IsWord w

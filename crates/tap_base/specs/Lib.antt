@@ -1,7 +1,17 @@
 pub mod Faults
 pub mod Interval
 pub mod LineWords
+pub mod ListWords
 pub mod Lists
+pub mod NamesOfSystems
+pub mod Offences
 pub mod Option
+pub mod Parts
 pub mod Ranges
+pub mod Receivers
+pub mod Resolved
+pub mod Roots
+pub mod Scope
+pub mod Truths
+pub mod Wires
 pub mod formers

@@ -31,4 +31,4 @@ pub use system::{Action, Field, Guard, Inputs, Message, Process, System, Var};
 pub use text::Text;
 pub use token::{Sign, Token, TokenKind};
 pub use tree::{Branch, Expr, ExprKind, Op, Stmt, Target};
-pub use wire::{Receive, Wire, WireField};
+pub use wire::{Receive, Wire, WireField, receives_of, wire_of};

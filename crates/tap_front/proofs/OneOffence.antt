@@ -1,5 +1,6 @@
 -- A text is accepted or has an offence, and never both; and its first offence is one, but for the place of S1.
-use Rattle.std.proofs.Common.{◌≡◌, ℕ, ◌<◌, ◌≤◌, List, Ok, Err, codes, length, refl, sym, ap, subst, arith}
+use Rattle.std.proofs.Common.{◌≡◌, ℕ, ◌<◌, ◌≤◌, List, [], Some, Ok, Err, codes, length, refl, sym, ◌∙◌, ap, subst, arith}
+use Rattle.std.proofs.lemmas.Option.{none-some, same_Some}
 use Rattle.tap_base.specs.declared.ast.Ast.{Ast}
 use Rattle.tap_base.specs.declared.refusal.Refusal.{Refusal}
 use Rattle.tap_base.specs.declared.token.Token.{Token}
@@ -9,10 +10,14 @@ use Rattle.tap_lexer.specs.Tokens.{LexesTo, Outcome, SpellsTokens}
 use Rattle.tap_lexer.proofs.One.{one_text}
 use Rattle.tap_parser.proofs.TextEnds.{one_text_end}
 use Rattle.tap_parser.proofs.TextOneTree.{one_text as one_tree}
-use Rattle.tap_front.specs.Accepting.{Accepted, IsReadAs, longest_text}
-use Rattle.tap_front.specs.Laws.{NeverRefused, OneOffence, OneTreeOfText}
-use Rattle.tap_front.specs.Lines.{code_word}
-use Rattle.tap_front.specs.Offences.{Misspells, Offends, misspelled, too_long, unlexed, unparsed, unnamed}
+use Rattle.small_limits.specs.Small.{IsSmall}
+use Rattle.tap_base.specs.ListWords.{first}
+use Rattle.tap_types.specs.Offences.{offences_of}
+use Rattle.tap_types.specs.Systems.{system_of}
+use Rattle.tap_front.specs.Accepting.{Accepted, IsReadAs, ResolvesTo, longest_text}
+use Rattle.tap_front.specs.Laws.{NeverRefused, OneOffence, OneSystemOfText, OneTreeOfText}
+use Rattle.tap_front.specs.Lines.{code_word, offence_code}
+use Rattle.tap_front.specs.Offences.{Misnames, Misspells, Offends, misnamed, misspelled, too_long, unlexed, unnamed, unparsed, unrunnable}
 use Rattle.tap_front.specs.declared.offence.Offence.{Offence}
 use Rattle.tap_front.specs.declared.offence.Offence.TheVariants.{Coded}
 use Rattle.tap_base.specs.declared.system.System.{System}
@@ -43,13 +48,6 @@ never_misspelled text tree r a (unlexed sized l) = not_lexed text r a.tokens l a
 never_misspelled text tree r a (unparsed {tokens} sized l t) =
     not_tree text a.tokens tree r a.parsed (subst (λ ts. TextOffence text ts r) (same_tokens text tokens a.tokens l a.lexed) t)
 
-accepted_whole : (text : List ℕ) (system : System) (o : Offence) → Accepted text system → Offends text o → ⊥
-accepted_whole text system o a (misspelled {r} m) = never_misspelled text a.tree r a.read m
-accepted_whole text system o a (unnamed read outside) = outside system a.named
-
-pub never_refused : NeverRefused
-never_refused = (never_misspelled, accepted_whole)
-
 -- the code and the place of the first offence of tokens
 of_tokens : (text : List ℕ) (tokens : List Token) (r s : Refusal) → TextOffence text tokens r → TextOffence text tokens s
     → (code_word r.code ≡ code_word s.code) × ((code_word r.code ≡ codes "S1" → ⊥) → r ≡ s)
@@ -70,12 +68,6 @@ one_misspelling text r s (unparsed {tokens} h l t) (unlexed g m) = absurd (not_l
 one_misspelling text r s (unparsed {tokens} h l t) (unparsed {tokens = others} g m u) =
     of_tokens text tokens r s t (subst (λ ts. TextOffence text ts s) (same_tokens text others tokens m l) u)
 
-pub one_offence : OneOffence
-one_offence text o p (misspelled {r} m) (misspelled {r = s} n) = let h = one_misspelling text r s m n in (h.0, λ k. ap Coded (h.1 k))
-one_offence text o p (misspelled {r} m) (unnamed {tree} read outside) = absurd (never_misspelled text tree r read m)
-one_offence text o p (unnamed {tree} read outside) (misspelled {r} m) = absurd (never_misspelled text tree r read m)
-one_offence text o p (unnamed read outside) (unnamed other out) = (refl, λ n. refl)
-
 -- ---- trees
 
 same_tree : (text : List ℕ) (tokens others : List Token) (c d : Ast) → tokens ≡ others → IsTree (lexemes text tokens) c → IsTree (lexemes text others) d → c ≡ d
@@ -85,3 +77,41 @@ same_tree text tokens others c d e h g =
 
 pub one_tree_of_text : OneTreeOfText
 one_tree_of_text text c d h g = same_tree text h.tokens g.tokens c d (same_tokens text h.tokens g.tokens h.lexed g.lexed) h.parsed g.parsed
+
+resolved_none : (tree other : Ast) (r : Refusal) → tree ≡ other → offences_of tree ≡ [] → first (offences_of other) ≡ Some r → ⊥
+resolved_none tree other r e h f = none-some r (sym (ap first (sym (ap offences_of e) ∙ h)) ∙ f)
+
+resolved_same : (tree other : Ast) (s t : System) → tree ≡ other → system_of tree ≡ Some s → system_of other ≡ Some t → s ≡ t
+resolved_same tree other s t e h k = same_Some s t (sym h ∙ ap system_of e ∙ k)
+
+-- a tree that resolves to a system that can be run so far has no offence
+never_misnamed : (tree other : Ast) (s : System) (o : Offence) → tree ≡ other → ResolvesTo tree s → IsSmall s → Misnames other o → ⊥
+never_misnamed tree other s o e h small (unnamed {r} f) = resolved_none tree other r e h.faultless f
+never_misnamed tree other s o e h small (unrunnable {system} k large) = large (subst IsSmall (resolved_same tree other s system e h.named k.named) small)
+
+accepted_whole : (text : List ℕ) (system : System) (o : Offence) → Accepted text system → Offends text o → ⊥
+accepted_whole text system o a (misspelled {r} m) = never_misspelled text a.tree r a.read m
+accepted_whole text system o a (misnamed {tree} read m) = never_misnamed a.tree tree system o (one_tree_of_text text a.tree tree a.read read) a.resolved a.small m
+
+pub never_refused : NeverRefused
+never_refused = (never_misspelled, accepted_whole)
+
+-- the first offences of one tree are one
+one_misnaming : (tree other : Ast) (o p : Offence) → tree ≡ other → Misnames tree o → Misnames other p → o ≡ p
+one_misnaming tree other o p e (unnamed {r} f) (unnamed {r = s} g) = ap Coded (same_Some r s (sym f ∙ ap first (ap offences_of e) ∙ g))
+one_misnaming tree other o p e (unnamed {r} f) (unrunnable k large) = absurd (resolved_none other tree r (sym e) k.faultless f)
+one_misnaming tree other o p e (unrunnable k large) (unnamed {r} f) = absurd (resolved_none tree other r e k.faultless f)
+one_misnaming tree other o p e (unrunnable k large) (unrunnable l other_large) = refl
+
+pub one_offence : OneOffence
+one_offence text o p (misspelled {r} m) (misspelled {r = s} n) = let h = one_misspelling text r s m n in (h.0, λ k. ap Coded (h.1 k))
+one_offence text o p (misspelled {r} m) (misnamed {tree} read n) = absurd (never_misspelled text tree r read m)
+one_offence text o p (misnamed {tree} read n) (misspelled {r} m) = absurd (never_misspelled text tree r read m)
+one_offence text o p (misnamed {tree} read m) (misnamed {tree = other} again n) =
+    let e = one_misnaming tree other o p (one_tree_of_text text tree other read again) m n in
+    (ap offence_code e, λ k. e)
+
+-- ---- systems
+
+pub one_system_of_text : OneSystemOfText
+one_system_of_text text a b h k = resolved_same h.tree k.tree a b (one_tree_of_text text h.tree k.tree h.read k.read) h.resolved.named k.resolved.named

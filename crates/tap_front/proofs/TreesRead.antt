@@ -1,4 +1,4 @@
--- Texts that are read as trees.
+-- Texts that are read as trees, and trees that resolve.
 use Rattle.std.proofs.Common.{◌≡◌, ◌≤◌, ℕ, List, Result, Ok, Err, IsErrAnd, length, sym, subst}
 use Rattle.tap_base.specs.declared.ast.Ast.{Ast}
 use Rattle.tap_base.specs.declared.system.System.{System}
@@ -7,10 +7,14 @@ use Rattle.tap_lexer.specs.Tokens.{SpellsTokens}
 use Rattle.tap_expr.specs.declared.fault.ParseFault.{ParseFault}
 use Rattle.tap_expr.specs.declared.fault.ParseFault.TheVariants as fault
 use Rattle.tap_parser.specs.inner.Texts.{TextAnswers}
-use Rattle.tap_front.specs.Accepting.{longest_text}
-use Rattle.tap_front.specs.Offences.{TextReads, TreeReads, misspelled, unparsed}
+use Rattle.tap_names.specs.Refusals.{Faults}
+use Rattle.tap_names.specs.declared.fault.TypeFault.{TypeFault}
+use Rattle.tap_names.specs.declared.fault.TypeFault.TheVariants as names
+use Rattle.tap_types.specs.Offences.{offences_of}
+use Rattle.tap_front.specs.Accepting.{IsReadAs, longest_text}
+use Rattle.tap_front.specs.Offences.{TextReads, TreeReads, misnamed, misspelled, unnamed, unparsed}
 use Rattle.tap_front.specs.declared.texts.TextFault.{TextFault}
-use Rattle.tap_front.specs.inner.Faults.{unread}
+use Rattle.tap_front.specs.inner.Faults.{unread, unresolved}
 
 -- the tree of a text is that of its tokens
 pub reads_tokens : (text : List ℕ) (tokens : List Token) → length text ≤ longest_text → SpellsTokens text tokens → (r : Result Ast ParseFault) → TextAnswers text tokens r → TreeReads text r
@@ -26,3 +30,12 @@ unaccepted text fault.NoMemory h = tt
 pub not_accepted : (text : List ℕ) (e : ParseFault) → TreeReads text (Err e) → (r : Result System TextFault) → IsErrAnd r (λ k. k ≡ unread e) → TextReads text r
 not_accepted text e h (Ok system) q = absurd q
 not_accepted text e h (Err k) q = subst (λ f. TextReads text (Err f)) (sym q) (unaccepted text e h)
+
+unnamed_text : (text : List ℕ) (tree : Ast) (e : TypeFault) → IsReadAs text tree → Faults (offences_of tree) e → TextReads text (Err (unresolved e))
+unnamed_text text tree (names.Refused r) read h = misnamed read (unnamed h)
+unnamed_text text tree names.NoMemory read h = tt
+
+-- what is read as a tree that does not resolve is not accepted
+pub not_resolved : (text : List ℕ) (tree : Ast) (e : TypeFault) → IsReadAs text tree → Faults (offences_of tree) e → (r : Result System TextFault) → IsErrAnd r (λ k. k ≡ unresolved e) → TextReads text r
+not_resolved text tree e read h (Ok system) q = absurd q
+not_resolved text tree e read h (Err k) q = subst (λ f. TextReads text (Err f)) (sym q) (unnamed_text text tree e read h)

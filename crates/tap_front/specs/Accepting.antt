@@ -1,14 +1,16 @@
 -- What a text is read as, and the system that it is accepted as.
-use Rattle.std.specs.Prelude.{ℕ, ◌≤◌, List, length, map}
+use Rattle.std.specs.Prelude.{◌≡◌, ℕ, ◌≤◌, List, [], length, map, Some}
 use Rattle.tap_base.specs.declared.ast.Ast.{Ast}
 use Rattle.tap_base.specs.declared.system.System.{System}
 use Rattle.tap_base.specs.declared.token.Token.{Token}
 use Rattle.tap_lexer.specs.Lexeme.{lexemes}
 use Rattle.tap_base.specs.Lists.{Each, AreDistinct}
 use Rattle.tap_base.specs.LineWords.{IsWord}
-use Rattle.tap_small.specs.SmallText.{SmallText}
+use Rattle.small_limits.specs.Small.{IsSmall}
 use Rattle.tap_parser.specs.Systems.{IsTree}
 use Rattle.tap_lexer.specs.Tokens.{SpellsTokens}
+use Rattle.tap_types.specs.Offences.{offences_of}
+use Rattle.tap_types.specs.Systems.{system_of}
 
 -- how many bytes the text of a system has at most
 abbrev pub longest_text : ℕ
@@ -21,11 +23,18 @@ pub record IsReadAs (text : List ℕ) (tree : Ast) : Type 0 where
   pub lexed : SpellsTokens text tokens
   pub parsed : IsTree (lexemes text tokens) tree
 
--- The text is accepted as the system: it is read as a tree, is one of the small language, and names the system.
+-- The tree resolves to the system: it has no offence of names, kinds and limits, and names the system.
+pub record ResolvesTo (tree : Ast) (system : System) : Type 0 where
+  pub faultless : offences_of tree ≡ []
+  pub named : system_of tree ≡ Some system
+
+-- The text is accepted as the system: it is read as a tree that resolves to the system, and this is one that can be run so
+-- far.
 pub record Accepted (text : List ℕ) (system : System) : Type 0 where
   pub tree : Ast
   pub read : IsReadAs text tree
-  pub named : SmallText text system
+  pub resolved : ResolvesTo tree system
+  pub small : IsSmall system
 
 -- The names of processes tell them apart in the words of a line: each is a word, and of one process alone.
 abbrev pub TellsApart : System → Type 0

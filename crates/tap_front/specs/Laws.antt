@@ -6,7 +6,8 @@ use Rattle.tap_base.specs.declared.refusal.Refusal.{Refusal}
 use Rattle.tap_base.specs.declared.system.System.{System}
 use Rattle.tap_printer.specs.Canonical.{canonical}
 use Rattle.tap_printer.specs.PlacesAside.{SameTree}
-use Rattle.tap_front.specs.Accepting.{Accepted, IsReadAs, TellsApart, longest_text}
+use Rattle.tap_base.specs.Resolved.{IsResolved}
+use Rattle.tap_front.specs.Accepting.{Accepted, IsReadAs, ResolvesTo, TellsApart, longest_text}
 use Rattle.tap_front.specs.Lines.{offence_code}
 use Rattle.tap_front.specs.Offences.{Misspells, Offends}
 use Rattle.tap_front.specs.declared.offence.Offence.{Offence}
@@ -36,10 +37,14 @@ PrintedAgain = (text : List ℕ) (tree : Ast) → IsReadAs text tree → length 
 abbrev pub NamesTellApart : Type 0
 NamesTellApart = (text : List ℕ) (system : System) → Accepted text system → TellsApart system
 
--- A system that a text is accepted as can be run without choices and inputs.
+-- A system that a text is accepted as can be run without choices.
 abbrev pub AcceptedRuns : Type 0
 AcceptedRuns = (text : List ℕ) (system : System) → Accepted text system → IsRunnable system
 
 -- A text is accepted as at most one system.
 abbrev pub OneSystemOfText : Type 0
 OneSystemOfText = (text : List ℕ) (a b : System) → Accepted text a → Accepted text b → a ≡ b
+
+-- What the tree of a text resolves to is a resolved system.
+abbrev pub ResolvedIsWhole : Type 0
+ResolvedIsWhole = (text : List ℕ) (tree : Ast) (system : System) → IsReadAs text tree → ResolvesTo tree system → IsResolved system

@@ -1,5 +1,5 @@
 -- The first offence of a text, and what reading a text answers.
-use Rattle.std.specs.Prelude.{ℕ, ◌<◌, ◌≤◌, List, length, Ok, Err, Result}
+use Rattle.std.specs.Prelude.{◌≡◌, ℕ, ◌<◌, ◌≤◌, List, length, Some, Ok, Err, Result}
 use Rattle.tap_base.specs.declared.ast.Ast.{Ast}
 use Rattle.tap_base.specs.declared.refusal.Refusal.{Refusal}
 use Rattle.tap_base.specs.declared.refusal.RefusalCode.TheVariants as code
@@ -7,12 +7,14 @@ use Rattle.tap_base.specs.declared.system.System.{System}
 use Rattle.tap_base.specs.declared.token.Token.{Token}
 use Rattle.tap_lexer.specs.Bytes.{start}
 use Rattle.tap_expr.specs.ExprText.{refusal}
-use Rattle.tap_small.specs.SmallText.{IsOutside}
+use Rattle.small_limits.specs.Small.{IsSmall}
 use Rattle.tap_parser.specs.Systems.{TextOffence}
 use Rattle.tap_lexer.specs.Tokens.{LexesTo, SpellsTokens}
+use Rattle.tap_base.specs.ListWords.{first}
+use Rattle.tap_types.specs.Offences.{offences_of}
 use Rattle.tap_expr.specs.declared.fault.ParseFault.{ParseFault}
 use Rattle.tap_expr.specs.declared.fault.ParseFault.TheVariants as unread
-use Rattle.tap_front.specs.Accepting.{Accepted, IsReadAs, longest_text}
+use Rattle.tap_front.specs.Accepting.{Accepted, IsReadAs, ResolvesTo, longest_text}
 use Rattle.tap_front.specs.declared.offence.Offence.{Offence}
 use Rattle.tap_front.specs.declared.offence.Offence.TheVariants.{Coded, Outside}
 use Rattle.tap_front.specs.declared.texts.TextFault.{TextFault}
@@ -25,11 +27,16 @@ pub data Misspells (text : List ℕ) : Refusal → Type 0 where
   unlexed : {r : Refusal} → length text ≤ longest_text → LexesTo text (Err r) → Misspells text r
   unparsed : {r : Refusal} {tokens : List Token} → length text ≤ longest_text → SpellsTokens text tokens → TextOffence text tokens r → Misspells text r
 
--- The first offence of a text: the one that keeps it from being read as a tree; else that it is none of the small
--- language.
+-- The first offence of a tree: the first of names, kinds and limits; else that the system which it resolves to is none that
+-- can be run so far.
+pub data Misnames (tree : Ast) : Offence → Type 0 where
+  unnamed : {r : Refusal} → first (offences_of tree) ≡ Some r → Misnames tree (Coded r)
+  unrunnable : {system : System} → ResolvesTo tree system → (IsSmall system → ⊥) → Misnames tree Outside
+
+-- The first offence of a text: the one that keeps it from being read as a tree; else that of the tree that it is read as.
 pub data Offends (text : List ℕ) : Offence → Type 0 where
   misspelled : {r : Refusal} → Misspells text r → Offends text (Coded r)
-  unnamed : {tree : Ast} → IsReadAs text tree → IsOutside text → Offends text Outside
+  misnamed : {tree : Ast} {o : Offence} → IsReadAs text tree → Misnames tree o → Offends text o
 
 -- an offence that keeps a text from being read as a tree
 abbrev pub IsMisspelling : List ℕ → Offence → Type 0

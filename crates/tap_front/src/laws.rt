@@ -1,6 +1,6 @@
 //! What the definitions of texts promise by themselves.
 
-ghost use Rattle.tap_front.specs.Laws.{AcceptedRuns, NamesTellApart, NeverRefused, OneOffence, OneSystemOfText, OneTreeOfText, PrintedAgain};
+ghost use Rattle.tap_front.specs.Laws.{AcceptedRuns, NamesTellApart, NeverRefused, OneOffence, OneSystemOfText, OneTreeOfText, PrintedAgain, ResolvedIsWhole};
 
 /// A text that is read as a tree has no offence that keeps it from that, and one that is accepted has none.
 pub fn never_refused()
@@ -30,7 +30,7 @@ pub fn names_tell_apart()
 {}
 
 /// A system that a text is accepted as keeps its ranges, is computed by 64-bit numbers, and can be run without
-/// choices and inputs.
+/// choices.
 pub fn accepted_runs()
     ensures { AcceptedRuns }
 {}
@@ -38,4 +38,10 @@ pub fn accepted_runs()
 /// A text is accepted as at most one system.
 pub fn one_system_of_text()
     ensures { OneSystemOfText }
+{}
+
+/// What the tree of a text resolves to is a resolved system: all that it names by number is there, its truths are
+/// truths, and it keeps the limits.
+pub fn resolved_is_whole()
+    ensures { ResolvedIsWhole }
 {}

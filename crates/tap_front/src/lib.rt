@@ -7,7 +7,7 @@ mod texts;
 
 pub use laws::{
     accepted_runs, names_tell_apart, never_refused, one_offence, one_system_of_text,
-    one_tree_of_text, printed_again,
+    one_tree_of_text, printed_again, resolved_is_whole,
 };
 pub use offence::{Offence, refused_line};
 pub use texts::{LONGEST_TEXT, TOO_LONG, TextFault, accept, tree_of};

@@ -11,7 +11,7 @@ use tap_base::{NoMemory, Place, Refusal, RefusalCode};
 pub enum Offence {
     /// One with a code and a place.
     Coded(Refusal),
-    /// None of these, but the text is none of the small language: `S0` at 1:1, for the time being.
+    /// None of these, but the system is none that can be run so far: `S0` at 1:1, for the time being.
     Outside,
 }
 

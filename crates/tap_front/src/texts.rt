@@ -3,13 +3,15 @@
 ghost use Rattle.std.specs.Prelude.{IfOk};
 ghost use Rattle.tap_front.specs.Accepting.{TellsApart};
 ghost use Rattle.tap_front.specs.Offences.{TextReads, TreeReads};
+ghost use Rattle.tap_base.specs.Resolved.{IsResolved};
 
 use crate::offence::Offence;
+use small_limits::is_small;
 use std::alloc::Global;
 use tap_base::{Ast, Place, Refusal, RefusalCode, System};
 use tap_lexer::{LexFault, lex};
 use tap_parser::{ParseFault, parse};
-use tap_small::{SmallFault, read_small};
+use tap_types::{TypeFault, resolve};
 
 /// How many bytes the text of a system has at most.
 pub const LONGEST_TEXT: usize = 1_048_576;
@@ -43,6 +45,20 @@ impl From<ParseFault> for TextFault {
     }
 }
 
+impl From<TypeFault> for TextFault {
+    ghost use Rattle.std.specs.Prelude.{◌≡◌};
+    ghost use Rattle.tap_front.specs.inner.Faults.{unresolved};
+
+    ghost from_gives = { λ e fault. fault ≡ unresolved e };
+
+    fn from(e: TypeFault) -> TextFault {
+        match e {
+            TypeFault::Refused(refusal) => TextFault::Refused(Offence::Coded(refusal)),
+            TypeFault::NoMemory => TextFault::NoMemory,
+        }
+    }
+}
+
 /// The tree that a text is read as, or its first offence: L0 where it is too long; else L1 or L2 where it has
 /// no tokens; else S2, S1 or S3 where these are no tree within the limits.
 pub fn tree_of(alloc: Global, text: &[u8]) -> Result<Ast, ParseFault>
@@ -59,15 +75,18 @@ pub fn tree_of(alloc: Global, text: &[u8]) -> Result<Ast, ParseFault>
 }
 
 /// The system that a text is accepted as, or its first offence: the one that keeps it from being read as a
-/// tree; else S0 where it names no system of the small language.
+/// tree; else the first of names, kinds and limits, N1, N2, N3, K1, K2, X1, X2 or M3: of its declarations, then of
+/// the uses of names, then of the sends that nobody receives; else S0 where the system is none that can be run so
+/// far.
 pub fn accept(alloc: Global, text: &[u8]) -> Result<System, TextFault>
     ensures reads { TextReads text.now result }
+    ensures whole { IfOk result IsResolved }
     ensures named { IfOk result TellsApart }
 {
-    let _tree = tree_of(alloc, text)?;
-    match read_small(alloc, text) {
-        Ok(system) => Ok(system),
-        Err(SmallFault::Outside) => Err(TextFault::Refused(Offence::Outside)),
-        Err(SmallFault::NoMemory) => Err(TextFault::NoMemory),
+    let tree = tree_of(alloc, text)?;
+    let system = resolve(alloc, &tree)?;
+    if !is_small(&system) {
+        return Err(TextFault::Refused(Offence::Outside));
     }
+    Ok(system)
 }

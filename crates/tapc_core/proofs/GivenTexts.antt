@@ -1,12 +1,30 @@
--- What a file gives, where its text is told.
-use Rattle.std.proofs.Common.{◌≡◌, ℕ, List, Option, Some, None, IfSome, subst, sym}
-use Rattle.abstract_run.specs.Semantics.{Semantics}
-use Rattle.tapc_core.specs.Run.{FileGives, Gives}
+-- What a file and settings give, where its text is told.
+use Rattle.std.proofs.Common.{◌≡◌, ℕ, List, Option, Some, None, IfSome, refl, subst, sym}
+use Rattle.tap_base.specs.declared.system.Inputs.{Inputs}
+use Rattle.tap_base.specs.declared.system.System.{System}
+use Rattle.abstract_run.specs.Semantics.{Semantics, semantics_of}
+use Rattle.tap_front.specs.Accepting.{Accepted}
+use Rattle.tap_settings.specs.GivenInputs.{inputs_given}
+use Rattle.tap_settings.specs.SettingText.{Assignment}
+use Rattle.tapc_core.specs.Run.{FileGives, Gives, HoldsSystem}
 
 pub if_some : {A : Type 0} (o : Option A) (P Q : A → Type 0) → ((x : A) → P x → Q x) → IfSome o P → IfSome o Q
 if_some None P Q f h = tt
 if_some (Some x) P Q f h = f x h
 
 -- a text that is told gives it
-pub where_told : (o : Option (List ℕ)) (m : Semantics) → FileGives o m → IfSome o (λ text. Gives text m)
-where_told o m h = if_some o (λ t. t ≡ h.text) (λ t. Gives t m) (λ t e. subst (λ x. Gives x m) (sym e) h.gives) h.text_is
+pub where_told : (o : Option (List ℕ)) (settings : List Assignment) (m : Semantics) (inputs : Inputs) → FileGives o settings m inputs → IfSome o (λ text. Gives text settings m inputs)
+where_told o settings m inputs h =
+    let P : List ℕ → Type 0 = λ text. Gives text settings m inputs in
+    if_some o (λ t. t ≡ h.text) P (λ t e. subst P (sym e) h.gives) h.text_is
+
+-- a text that is told is the one that is accepted
+pub held_told : (o : Option (List ℕ)) (system : System) → HoldsSystem o system → IfSome o (λ text. Accepted text system)
+held_told o system h =
+    let P : List ℕ → Type 0 = λ text. Accepted text system in
+    if_some o (λ t. t ≡ h.text) P (λ t e. subst P (sym e) h.accepted) h.text_is
+
+-- with the inputs that settings give its system, a file gives what the system says
+pub file_gives : (o : Option (List ℕ)) (settings : List Assignment) (system : System) (inputs : Inputs) → HoldsSystem o system → inputs_given system settings ≡ Some inputs
+    → FileGives o settings (semantics_of system) inputs
+file_gives o settings system inputs h given = record { text = h.text; text_is = h.text_is; gives = record { system = system; accepted = h.accepted; says = refl; given = given } }

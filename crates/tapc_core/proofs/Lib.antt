@@ -5,6 +5,8 @@ pub mod FrontRead
 pub mod Fronts
 pub mod GivenTexts
 pub mod Outputs
+pub mod SettingLists
+pub mod SettingWords
 pub mod Steps
 pub mod Sure
 pub mod TreesRead

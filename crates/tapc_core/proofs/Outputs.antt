@@ -2,10 +2,11 @@
 use Rattle.std.proofs.Common.{◌≡◌, ◌+◌, ◌<◌, ◌≤◌, ◌⊎◌, inl, inr, ℕ, List, [], ◌∷◌, ◌++◌, length, Option, Some, None, IfSome, refl, ap, sym, subst, ◌∙◌, append_assoc, append-nil, arith}
 use Rattle.std.specs.Option.{option_map}
 use Rattle.std.specs.Io.KnownBytes.{Appends}
+use Rattle.tap_base.specs.declared.system.Inputs.{Inputs}
 use Rattle.tap_base.specs.declared.system.System.{System}
 use Rattle.abstract_run.specs.Answers.{Answers}
 use Rattle.abstract_run.specs.Fits.{Fits}
-use Rattle.abstract_run.specs.Runnable.{IsRunnable}
+use Rattle.abstract_run.specs.Opening.{opening_state}
 use Rattle.abstract_run.specs.Semantics.{Semantics, semantics_of}
 use Rattle.abstract_run.specs.declared.label.Event.{Event}
 use Rattle.abstract_run.specs.declared.label.Label.{Label}
@@ -17,7 +18,7 @@ use Rattle.run_text.proofs.RunLines.{whole_trace}
 use Rattle.tap_front.specs.Lines.{refused_line}
 use Rattle.tap_front.specs.declared.offence.Offence.{Offence}
 use Rattle.tapc_core.specs.Lines.{bad_line, no_memory_line, read_fault_line}
-use Rattle.tapc_core.specs.Run.{Files, Played}
+use Rattle.tapc_core.specs.Run.{Played, Task}
 use Rattle.tapc_core.specs.Written.{IsWritten, Writes}
 use Rattle.tapc_core.specs.commands.World.{IsBadTrace, IsFrontOfTrace, IsPlayed, IsTrace, IsUnfinished, OfWorld}
 use Rattle.tapc_core.specs.declared.files.FileFault.{FileFault}
@@ -29,7 +30,7 @@ use Rattle.tapc_core.specs.inner.FileFaults.{GivesUp}
 use Rattle.tapc_core.specs.inner.Playing.{AreOf, Broken, Passed, Progress}
 use Rattle.tapc_core.proofs.GivenTexts.{if_some}
 use Rattle.tapc_core.proofs.Steps.{answered, appends_more, appends_none}
-use Rattle.world_run.specs.Opening.{opening}
+use Rattle.abstract_run.specs.Runnable.{IsRunnable}
 use Rattle.world_run.proofs.Lines.{lines_append}
 
 -- ---- closing
@@ -66,6 +67,12 @@ module _ (Kind : Status → List ℕ → Type 0) where
       → Kind status bytes → Closes status bytes before now r → Writes Kind r before now
   closes_alone {before = before} output closes = closes_behind [] (appends_none before) output closes
 
+  -- the last bytes are all, or memory was refused and others are
+  pub closes_or : {status r : Status} {before now : Option (List ℕ)} {bytes others : List ℕ}
+      → Kind status bytes → Kind NoMemory others → ClosesOr status bytes others before now r → Writes Kind r before now
+  closes_or output refused (inl h) = closes_alone output h
+  closes_or output refused (inr h) = closes_alone refused h
+
   -- a command that has nothing to work on writes one line
   pub gives_up : (fault : FileFault) (r : Status) (before now : Option (List ℕ)) → ((o : Offence) → fault ≡ file.Refused o → Kind Refused (refused_line o))
       → Kind ReadFault read_fault_line → Kind NoMemory no_memory_line → GivesUp fault before now r → Writes Kind r before now
@@ -95,33 +102,34 @@ begins names schedule rest events (inr h) = ([], h.1 ∙ sym (append-nil (events
 
 -- ---- outputs
 
-abbrev played : {system : System} {schedule rest : List ℕ} {number : ℕ} {s : State} {before now : Option (List ℕ)} {page : List ℕ} {files : Files}
-    → AreOf system schedule files → Progress (semantics_of system) schedule rest number s before now page → Played files
-played {system = system} {s = s} {files = files} of p =
-    record { semantics = semantics_of system; gives = of.gives; events = p.events; labels = p.labels; last = s; run = p.run }
+abbrev played : {system : System} {inputs : Inputs} {schedule rest : List ℕ} {number : ℕ} {s : State} {before now : Option (List ℕ)} {page : List ℕ} {task : Task}
+    → AreOf system inputs schedule task → Progress (semantics_of system) (opening_state (semantics_of system) inputs) schedule rest number s before now page → Played task
+played {system = system} {inputs = inputs} {s = s} {task = task} of p =
+    record { semantics = semantics_of system; inputs = inputs; gives = of.gives; events = p.events; labels = p.labels; last = s; run = p.run }
 
 -- nothing is falling at the end of a run
 settled_end : (m : Semantics) (s t : State) (es : List Event) (labels : List Label) → s.falling ≡ None → Answers m s es labels t → t.falling ≡ None
 settled_end m s t [] labels settled h = ap (λ x. x.falling) h.1 ∙ settled
 settled_end m s t (e ∷ es) labels settled h = settled_end m h.2 t es h.1 h.4.settled h.5
 
-pub trace_output : {system : System} {schedule : List ℕ} {number : ℕ} {s : State} {before now : Option (List ℕ)} {page : List ℕ} {files : Files}
-    → IsRunnable system → Fits (semantics_of system) (opening (semantics_of system)) → AreOf system schedule files → (p : Progress (semantics_of system) schedule [] number s before now page)
-    → IsTrace files (p.put ++ (page ++ lines_text (last_lines (semantics_of system) s)))
-trace_output {system = system} {schedule = schedule} {s = s} {page = page} {files = files} runnable fits of p =
+pub trace_output : {system : System} {inputs : Inputs} {schedule : List ℕ} {number : ℕ} {s : State} {before now : Option (List ℕ)} {page : List ℕ} {task : Task}
+    → IsRunnable system → Fits (semantics_of system) (opening_state (semantics_of system) inputs) → AreOf system inputs schedule task → (p : Progress (semantics_of system) (opening_state (semantics_of system) inputs) schedule [] number s before now page)
+    → IsTrace task (p.put ++ (page ++ lines_text (last_lines (semantics_of system) s)))
+trace_output {system = system} {inputs = inputs} {schedule = schedule} {s = s} {page = page} {task = task} runnable fits of p =
     let m = semantics_of system in
+    let start = opening_state m inputs in
     let answers = p.run.answers in
     let last = last_lines m s in
-    let whole = whole_trace m (opening m) s p.labels p.lines p.shown (answered m (opening m) s p.events p.labels answers) (settled_end m (opening m) s p.events p.labels refl answers) in
+    let whole = whole_trace m start s p.labels p.lines p.shown (answered m start s p.events p.labels answers) (settled_end m start s p.events p.labels refl answers) in
     record {
       run = played of p;
-      schedule = of_schedule files.schedule schedule (λ t. SpellsSchedule (names_in m) t p.events)
+      schedule = of_schedule task.schedule schedule (λ t. SpellsSchedule (names_in m) t p.events)
           (p.listed, spells_all (names_in m) schedule p.events p.passed) of.schedule_is;
       is = record {
         lines = p.lines ++ last;
         told = whole;
         sized = p.sized;
-        few = few_lines m (opening m) s p.events p.labels (p.lines ++ last) runnable.safe.begins runnable.safe.keeps fits p.listed.few answers whole;
+        few = few_lines m start s p.events p.labels (p.lines ++ last) runnable.safe.begins runnable.safe.keeps fits p.listed.few answers whole;
         text = sym (append_assoc p.put page (lines_text last)) ∙ ap (λ z. z ++ lines_text last) (sym p.is) ∙ sym (lines_append p.lines last);
       };
     }
@@ -133,46 +141,46 @@ bad_after events rest number count few (inl above) = inl (omega (arith, count, f
 bad_after events rest number count few (inr bad) = inr bad
 
 -- the text of the lines so far
-so_far : {m : Semantics} {schedule rest : List ℕ} {number : ℕ} {s : State} {before now : Option (List ℕ)} {page : List ℕ} → (p : Progress m schedule rest number s before now page)
-    → option_map lines_text (run_lines m (opening m) p.labels) ≡ Some (p.put ++ page)
+so_far : {m : Semantics} {start : State} {schedule rest : List ℕ} {number : ℕ} {s : State} {before now : Option (List ℕ)} {page : List ℕ} → (p : Progress m start schedule rest number s before now page)
+    → option_map lines_text (run_lines m start p.labels) ≡ Some (p.put ++ page)
 so_far p = ap (option_map lines_text) p.shown ∙ ap Some p.is
 
-pub bad_output : {system : System} {schedule rest : List ℕ} {number : ℕ} {s : State} {before now : Option (List ℕ)} {page : List ℕ} {files : Files}
-    → AreOf system schedule files → (rest ≡ [] → ⊥) → (most_events < number) ⊎ BeginsBadly (names_in (semantics_of system)) rest
-    → (p : Progress (semantics_of system) schedule rest number s before now page) → IsBadTrace files (p.put ++ (page ++ bad_line number))
-bad_output {system = system} {schedule = schedule} {rest = rest} {number = number} {page = page} {files = files} of more bad p =
+pub bad_output : {system : System} {inputs : Inputs} {schedule rest : List ℕ} {number : ℕ} {s : State} {before now : Option (List ℕ)} {page : List ℕ} {task : Task}
+    → AreOf system inputs schedule task → (rest ≡ [] → ⊥) → (most_events < number) ⊎ BeginsBadly (names_in (semantics_of system)) rest
+    → (p : Progress (semantics_of system) (opening_state (semantics_of system) inputs) schedule rest number s before now page) → IsBadTrace task (p.put ++ (page ++ bad_line number))
+bad_output {system = system} {schedule = schedule} {rest = rest} {number = number} {page = page} {task = task} of more bad p =
     let names = names_in (semantics_of system) in
     record {
       run = played of p;
-      schedule = of_schedule files.schedule schedule (λ t. GoesOnAfter names t p.events)
+      schedule = of_schedule task.schedule schedule (λ t. GoesOnAfter names t p.events)
           (record { rest = rest; listed = p.listed; split = goes_on names schedule rest p.events more p.passed; more = more; bad = bad_after p.events rest number p.count p.listed.few bad }) of.schedule_is;
       lines = p.put ++ page;
       shown = so_far p;
       is = sym (append_assoc p.put page (bad_line number)) ∙ ap (λ n. (p.put ++ page) ++ bad_line n) p.count;
     }
 
-front_output : {system : System} {schedule rest : List ℕ} {number : ℕ} {s : State} {before now : Option (List ℕ)} {page : List ℕ} {files : Files}
-    → AreOf system schedule files → (p : Progress (semantics_of system) schedule rest number s before now page) → IsFrontOfTrace files (p.put ++ page)
-front_output {system = system} {schedule = schedule} {rest = rest} {files = files} of p =
+front_output : {system : System} {inputs : Inputs} {schedule rest : List ℕ} {number : ℕ} {s : State} {before now : Option (List ℕ)} {page : List ℕ} {task : Task}
+    → AreOf system inputs schedule task → (p : Progress (semantics_of system) (opening_state (semantics_of system) inputs) schedule rest number s before now page) → IsFrontOfTrace task (p.put ++ page)
+front_output {system = system} {schedule = schedule} {rest = rest} {task = task} of p =
     let names = names_in (semantics_of system) in
     let b = begins names schedule rest p.events p.passed in
     record {
       run = played of p;
-      schedule = of_schedule files.schedule schedule (λ t. BeginsSchedule names t p.events) (record { listed = p.listed; rest = b.0; split = b.1 }) of.schedule_is;
+      schedule = of_schedule task.schedule schedule (λ t. BeginsSchedule names t p.events) (record { listed = p.listed; rest = b.0; split = b.1 }) of.schedule_is;
       is = so_far p;
     }
 
-pub unfinished_output : {system : System} {schedule rest : List ℕ} {number : ℕ} {s : State} {before now : Option (List ℕ)} {page : List ℕ} {files : Files}
-    → AreOf system schedule files → (p : Progress (semantics_of system) schedule rest number s before now page)
-    → IsUnfinished files (p.put ++ (page ++ no_memory_line))
+pub unfinished_output : {system : System} {inputs : Inputs} {schedule rest : List ℕ} {number : ℕ} {s : State} {before now : Option (List ℕ)} {page : List ℕ} {task : Task}
+    → AreOf system inputs schedule task → (p : Progress (semantics_of system) (opening_state (semantics_of system) inputs) schedule rest number s before now page)
+    → IsUnfinished task (p.put ++ (page ++ no_memory_line))
 unfinished_output {page = page} of p = record {
   front = p.put ++ page;
   shown = inr (front_output of p);
   is = sym (append_assoc p.put page no_memory_line);
 }
 
-pub broken_output : {system : System} {schedule : List ℕ} {before now : Option (List ℕ)} {files : Files}
-    → AreOf system schedule files → Broken (semantics_of system) schedule before now → Writes (OfWorld files) WriteFault before now
+pub broken_output : {system : System} {inputs : Inputs} {schedule : List ℕ} {before now : Option (List ℕ)} {task : Task}
+    → AreOf system inputs schedule task → Broken (semantics_of system) (opening_state (semantics_of system) inputs) schedule before now → Writes (OfWorld task) WriteFault before now
 broken_output {system = system} {before = before} {now = now} of b =
     let p = b.progress in
     record {
@@ -192,32 +200,41 @@ broken_output {system = system} {before = before} {now = now} of b =
 -- ---- the ends of a run
 
 -- the same page, as it was handed on
-pub on_page : {m : Semantics} {schedule rest : List ℕ} {number : ℕ} {s : State} {before now : Option (List ℕ)} {page given : List ℕ}
-    → given ≡ page → Progress m schedule rest number s before now page → Progress m schedule rest number s before now given
-on_page {m = m} {schedule = schedule} {rest = rest} {number = number} {s = s} {before = before} {now = now} e p =
-    subst (λ x. Progress m schedule rest number s before now x) (sym e) p
+pub on_page : {m : Semantics} {start : State} {schedule rest : List ℕ} {number : ℕ} {s : State} {before now : Option (List ℕ)} {page given : List ℕ}
+    → given ≡ page → Progress m start schedule rest number s before now page → Progress m start schedule rest number s before now given
+on_page {m = m} {start = start} {schedule = schedule} {rest = rest} {number = number} {s = s} {before = before} {now = now} e p =
+    subst (λ x. Progress m start schedule rest number s before now x) (sym e) p
+
+-- the same state, as the run began in it
+pub progress_from : {m : Semantics} {start begun : State} {schedule rest : List ℕ} {number : ℕ} {s : State} {before now : Option (List ℕ)} {page : List ℕ}
+    → begun ≡ start → Progress m begun schedule rest number s before now page → Progress m start schedule rest number s before now page
+progress_from {m = m} {schedule = schedule} {rest = rest} {number = number} {s = s} {before = before} {now = now} {page = page} e p =
+    subst (λ x. Progress m x schedule rest number s before now page) e p
+
+pub broken_from : {m : Semantics} {start begun : State} {schedule : List ℕ} {before now : Option (List ℕ)} → begun ≡ start → Broken m begun schedule before now → Broken m start schedule before now
+broken_from {m = m} {schedule = schedule} {before = before} {now = now} e b = subst (λ x. Broken m x schedule before now) e b
 
 -- the run was played to the end of its schedule
-pub trace_closes : (files : Files) {system after : System} {schedule : List ℕ} {number : ℕ} {s : State} {before middle now : Option (List ℕ)} {page : List ℕ} {r : Status}
-    → after ≡ system → IsRunnable system → Fits (semantics_of system) (opening (semantics_of system)) → AreOf system schedule files → Progress (semantics_of system) schedule [] number s before middle page
-    → ClosesOr Done (page ++ lines_text (last_lines (semantics_of after) s)) (page ++ no_memory_line) middle now r → Writes (OfWorld files) r before now
-trace_closes files {s = s} {middle = middle} {now = now} {page = page} {r = r} still runnable fits of p (inl h) =
-    closes_behind (OfWorld files) p.put p.told (trace_output runnable fits of p)
+pub trace_closes : (task : Task) {system after : System} {inputs : Inputs} {schedule : List ℕ} {number : ℕ} {s : State} {before middle now : Option (List ℕ)} {page : List ℕ} {r : Status}
+    → after ≡ system → IsRunnable system → Fits (semantics_of system) (opening_state (semantics_of system) inputs) → AreOf system inputs schedule task → Progress (semantics_of system) (opening_state (semantics_of system) inputs) schedule [] number s before middle page
+    → ClosesOr Done (page ++ lines_text (last_lines (semantics_of after) s)) (page ++ no_memory_line) middle now r → Writes (OfWorld task) r before now
+trace_closes task {s = s} {middle = middle} {now = now} {page = page} {r = r} still runnable fits of p (inl h) =
+    closes_behind (OfWorld task) p.put p.told (trace_output runnable fits of p)
     (subst (λ x. Closes Done (page ++ lines_text (last_lines (semantics_of x) s)) middle now r) still h)
-trace_closes files still runnable fits of p (inr h) = closes_behind (OfWorld files) p.put p.told (unfinished_output of p) h
+trace_closes task still runnable fits of p (inr h) = closes_behind (OfWorld task) p.put p.told (unfinished_output of p) h
 
 -- a line is that of no event
-pub bad_closes : (files : Files) {system : System} {schedule rest : List ℕ} {number : ℕ} {s : State} {before middle now : Option (List ℕ)} {page : List ℕ} {r : Status}
-    → AreOf system schedule files → (rest ≡ [] → ⊥) → (most_events < number) ⊎ BeginsBadly (names_in (semantics_of system)) rest
-    → Progress (semantics_of system) schedule rest number s before middle page → ClosesOr BadSchedule (page ++ bad_line number) (page ++ no_memory_line) middle now r → Writes (OfWorld files) r before now
-bad_closes files of more bad p (inl h) = closes_behind (OfWorld files) p.put p.told (bad_output of more bad p) h
-bad_closes files of more bad p (inr h) = closes_behind (OfWorld files) p.put p.told (unfinished_output of p) h
+pub bad_closes : (task : Task) {system : System} {inputs : Inputs} {schedule rest : List ℕ} {number : ℕ} {s : State} {before middle now : Option (List ℕ)} {page : List ℕ} {r : Status}
+    → AreOf system inputs schedule task → (rest ≡ [] → ⊥) → (most_events < number) ⊎ BeginsBadly (names_in (semantics_of system)) rest
+    → Progress (semantics_of system) (opening_state (semantics_of system) inputs) schedule rest number s before middle page → ClosesOr BadSchedule (page ++ bad_line number) (page ++ no_memory_line) middle now r → Writes (OfWorld task) r before now
+bad_closes task of more bad p (inl h) = closes_behind (OfWorld task) p.put p.told (bad_output of more bad p) h
+bad_closes task of more bad p (inr h) = closes_behind (OfWorld task) p.put p.told (unfinished_output of p) h
 
 -- memory was refused
-pub unfinished_closes : (files : Files) {system : System} {schedule rest : List ℕ} {number : ℕ} {s : State} {before middle now : Option (List ℕ)} {page : List ℕ} {r : Status}
-    → AreOf system schedule files → Progress (semantics_of system) schedule rest number s before middle page
-    → Closes NoMemory (page ++ no_memory_line) middle now r → Writes (OfWorld files) r before now
-unfinished_closes files of p h = closes_behind (OfWorld files) p.put p.told (unfinished_output of p) h
+pub unfinished_closes : (task : Task) {system : System} {inputs : Inputs} {schedule rest : List ℕ} {number : ℕ} {s : State} {before middle now : Option (List ℕ)} {page : List ℕ} {r : Status}
+    → AreOf system inputs schedule task → Progress (semantics_of system) (opening_state (semantics_of system) inputs) schedule rest number s before middle page
+    → Closes NoMemory (page ++ no_memory_line) middle now r → Writes (OfWorld task) r before now
+unfinished_closes task of p h = closes_behind (OfWorld task) p.put p.told (unfinished_output of p) h
 
 -- what is so of a status and of a failed put is so of what closes with the status
 pub closes_answered : {status r : Status} {bytes : List ℕ} {before now : Option (List ℕ)} (P : Status → Type 0) → P status → P WriteFault → Closes status bytes before now r → P r
@@ -228,5 +245,5 @@ pub closes_played : {status r : Status} {bytes : List ℕ} {before now : Option 
 closes_played h = closes_answered IsPlayed h tt
 
 -- nothing but that memory was refused
-pub refused_memory : (files : Files) → IsUnfinished files no_memory_line
-refused_memory files = record { front = []; shown = inl refl; is = refl }
+pub refused_memory : (task : Task) → IsUnfinished task no_memory_line
+refused_memory task = record { front = []; shown = inl refl; is = refl }

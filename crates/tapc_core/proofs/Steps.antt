@@ -15,7 +15,6 @@ use Rattle.abstract_run.specs.declared.state.State.{State}
 use Rattle.run_text.specs.ScheduleText.{AreListed, IsFirstLine, IsListed, SpellsEvent, event_line, events_text, most_events}
 use Rattle.run_text.specs.TraceText.{lines_text, names_in}
 use Rattle.tapc_core.specs.inner.Playing.{Passed, Progress}
-use Rattle.world_run.specs.Opening.{opening}
 use Rattle.world_run.specs.Served.{Served}
 use Rattle.run_text.proofs.RunLines.{run_lines_more}
 use Rattle.world_run.proofs.Lines.{lines_append}
@@ -115,8 +114,8 @@ each_and : {A : Type 0} (P : A → Type 0) (xs ys : List A) → Each P xs → Ea
 each_and P [] ys h k = k
 each_and P (x ∷ xs) ys h k = (h.0, each_and P xs ys h.1 k)
 
-pub progress_start : (semantics : Semantics) (schedule : List ℕ) (before : Option (List ℕ)) → Progress semantics schedule schedule 1 (opening semantics) before before []
-progress_start semantics schedule before = record {
+pub progress_start : (semantics : Semantics) (start : State) (schedule : List ℕ) (before : Option (List ℕ)) → Progress semantics start schedule schedule 1 start before before []
+progress_start semantics start schedule before = record {
   events = [];
   listed = record { each = tt; few = lit≤ tt };
   passed = inl refl;
@@ -131,9 +130,9 @@ progress_start semantics schedule before = record {
   is = refl;
 }
 
-pub progress_more : {semantics : Semantics} {schedule rest line tail : List ℕ} {number : ℕ} {s t : State} {before now : Option (List ℕ)} {page after : List ℕ} {e : Event}
-    → number ≤ most_events → Progress semantics schedule rest number s before now page → (rest ≡ [] → ⊥) → IsFirstLine rest line tail → SpellsEvent (names_in semantics) line e
-    → Served semantics e s t page after → Progress semantics schedule tail (number + 1) t before now after
+pub progress_more : {semantics : Semantics} {start : State} {schedule rest line tail : List ℕ} {number : ℕ} {s t : State} {before now : Option (List ℕ)} {page after : List ℕ} {e : Event}
+    → number ≤ most_events → Progress semantics start schedule rest number s before now page → (rest ≡ [] → ⊥) → IsFirstLine rest line tail → SpellsEvent (names_in semantics) line e
+    → Served semantics e s t page after → Progress semantics start schedule tail (number + 1) t before now after
 progress_more {semantics = semantics} {number = number} {s = s} {t = t} {page = page} {after = after} {e = e} few p some first spells served =
     let ran = answered semantics _ s p.events p.labels p.run.answers in
     let wrote = served.wrote in
@@ -156,9 +155,9 @@ progress_more {semantics = semantics} {number = number} {s = s} {t = t} {page = 
     }
 
 -- the front of the page was put
-pub progress_moved : {semantics : Semantics} {schedule rest : List ℕ} {number : ℕ} {s : State} {before middle now : Option (List ℕ)} {page left : List ℕ}
-    → Progress semantics schedule rest number s before middle page → (put : List ℕ) → Appends middle now put → put ++ left ≡ page
-    → Progress semantics schedule rest number s before now left
+pub progress_moved : {semantics : Semantics} {start : State} {schedule rest : List ℕ} {number : ℕ} {s : State} {before middle now : Option (List ℕ)} {page left : List ℕ}
+    → Progress semantics start schedule rest number s before middle page → (put : List ℕ) → Appends middle now put → put ++ left ≡ page
+    → Progress semantics start schedule rest number s before now left
 progress_moved {before = before} {middle = middle} {now = now} {left = left} p put told cut = record {
   events = p.events;
   listed = p.listed;

@@ -1,6 +1,9 @@
--- Where no count of faults rose, what the files hold decides the status, but for want of memory.
-use Rattle.std.proofs.Common.{◌≡◌, inl, inr, ℕ, List, Option, Some, None, IfSome, refl, ap, subst, ◌∙◌}
+-- Where no count of faults rose, what the files hold and the settings decide the status, but for want of memory.
+use Rattle.std.proofs.Common.{◌≡◌, ◌⊎◌, inl, inr, ℕ, List, Option, Some, None, IfSome, refl, ap, sym, subst, ◌∙◌}
+use Rattle.std.specs.Prelude.{IsSome}
+use Rattle.std.proofs.lemmas.Option.{none-some}
 use Rattle.tap_base.specs.declared.ast.Ast.{Ast}
+use Rattle.tap_base.specs.declared.system.Inputs.{Inputs}
 use Rattle.tap_base.specs.declared.system.System.{System}
 use Rattle.abstract_run.specs.Semantics.{Semantics, semantics_of}
 use Rattle.run_text.specs.ScheduleText.{GoesOnAfter, SpellsSchedule}
@@ -10,10 +13,16 @@ use Rattle.tap_front.specs.Accepting.{Accepted, IsReadAs}
 use Rattle.tap_front.specs.Offences.{IsMisspelling, Offends}
 use Rattle.tap_front.specs.declared.offence.Offence.{Offence}
 use Rattle.tap_front.specs.declared.offence.Offence.TheVariants.{Coded, Outside}
-use Rattle.tap_front.proofs.OneOffence.{never_refused}
+use Rattle.tap_front.proofs.OneOffence.{never_refused, one_system_of_text}
+use Rattle.tap_settings.specs.GivenInputs.{inputs_given}
+use Rattle.tap_base.specs.ListWords.{first}
+use Rattle.tap_settings.specs.Offences.{settings_offences}
+use Rattle.tap_settings.specs.SettingText.{Assignment}
+use Rattle.tap_settings.specs.declared.refusals.SettingRefusal.{SettingRefusal}
+use Rattle.tap_settings.proofs.Given.{given_or_refused}
 use Rattle.tapc_core.specs.Causes.{HasSinkCause, HasStoreCause, IsSure}
 use Rattle.tapc_core.specs.Command.{Contents}
-use Rattle.tapc_core.specs.Run.{Files, Gives}
+use Rattle.tapc_core.specs.Run.{Gives, Played, Task}
 use Rattle.tapc_core.specs.Words.{Asked, check, print, world}
 use Rattle.tapc_core.specs.Written.{IsWritten, Writes}
 use Rattle.tapc_core.specs.commands.All.{command_for}
@@ -21,12 +30,11 @@ use Rattle.tapc_core.specs.commands.Check.{CheckIsSure, OfCheck, accepts, refuse
 use Rattle.tapc_core.specs.commands.NoCommand.{NoneIsSure, OfNone, usage}
 use Rattle.tapc_core.specs.commands.Print.{OfPrint, PrintIsSure, prints, refuses as print_refuses}
 use Rattle.tapc_core.specs.commands.Text.{HasOffence, HasSystem, HasTree, IsRefusal}
-use Rattle.tapc_core.specs.commands.World.{HasSchedule, IsBadTrace, IsTrace, OfWorld, WorldIsSure, files_named, plays, stops, refuses}
+use Rattle.tapc_core.specs.commands.World.{HasMisset, HasSchedule, IsBadTrace, IsMisset, IsTrace, OfWorld, WorldIsSure, task_of, missets, plays, refuses, stops}
 use Rattle.tapc_core.specs.declared.status.Status.{Status}
 use Rattle.tapc_core.specs.declared.status.Status.TheVariants.{Done, Refused, Usage, BadSchedule, ReadFault, WriteFault, LinkFault, NoMemory, NotARun, WorldFull}
-use Rattle.tap_front.proofs.Runs.{one_system_of_text}
 use Rattle.tapc_core.proofs.Fronts.{names_apart}
-use Rattle.tapc_core.proofs.GivenTexts.{where_told}
+use Rattle.tapc_core.proofs.GivenTexts.{held_told, where_told}
 
 told : {A : Type 0} (o : Option A) (x : A) (P : A → Type 0) → o ≡ Some x → IfSome o P → P x
 told o x P is h = subst (λ y. IfSome y P) is h
@@ -62,8 +70,13 @@ not_misspelled text bytes v h = no_misspelling v.text v.tree h.offence v.read (t
 not_accepted : (text : Option (List ℕ)) (system : System) → HasOffence Offends text → IfSome text (λ t. Accepted t system) → ⊥
 not_accepted text system b h = never_refused.1 b.text system b.offence (told text b.text (λ t. Accepted t system) b.text_is h) b.first
 
-not_given : (text : Option (List ℕ)) (m : Semantics) → HasOffence Offends text → IfSome text (λ t. Gives t m) → ⊥
-not_given text m b h = let g = told text b.text (λ t. Gives t m) b.text_is h in never_refused.1 b.text g.system b.offence g.accepted b.first
+-- what a run is given, where the text is told
+given_here : (task : Task) (text : List ℕ) (r : Played task) → task.text ≡ Some text → Gives text task.settings r.semantics r.inputs
+given_here task text r is = told task.text text (λ t. Gives t task.settings r.semantics r.inputs) is (where_told task.text task.settings r.semantics r.inputs r.gives)
+
+not_given : (task : Task) → HasOffence Offends task.text → Played task → ⊥
+not_given task b r =
+    let g = given_here task b.text r b.text_is in never_refused.1 b.text g.system b.offence g.accepted b.first
 
 not_read : (text : Option (List ℕ)) (tree : Ast) → HasOffence IsMisspelling text → IfSome text (λ t. IsReadAs t tree) → ⊥
 not_read text tree b h = no_misspelling b.text tree b.offence (told text b.text (λ t. IsReadAs t tree) b.text_is h) b.first
@@ -71,28 +84,52 @@ not_read text tree b h = no_misspelling b.text tree b.offence (told text b.text 
 -- ---- schedules
 
 -- what a text gives is what the system says that it is accepted as
-given_same : (text : List ℕ) (system : System) (m : Semantics) → Accepted text system → Gives text m → m ≡ semantics_of system
-given_same text system m a g = g.says ∙ ap semantics_of (one_system_of_text text g.system system g.accepted a)
+given_same : (text : List ℕ) (settings : List Assignment) (system : System) (m : Semantics) (inputs : Inputs) → Accepted text system → Gives text settings m inputs → m ≡ semantics_of system
+given_same text settings system m inputs a g = g.says ∙ ap semantics_of (one_system_of_text text g.system system g.accepted a)
 
 -- a schedule of events has no bad line
-not_both : (files : Files) (bytes : List ℕ) → HasSchedule SpellsSchedule files → IsBadTrace files bytes → ⊥
-not_both files bytes v h =
+not_both : (task : Task) (bytes : List ℕ) → HasSchedule SpellsSchedule task → IsBadTrace task bytes → ⊥
+not_both task bytes v h =
     let r = h.run in
     let t = v.text in
-    let same = given_same t.text t.system r.semantics t.accepted (told files.text t.text (λ text. Gives text r.semantics) t.text_is (where_told files.text r.semantics r.gives)) in
-    let goes_on = told files.schedule v.schedule (λ text. GoesOnAfter (names_in r.semantics) text r.events) v.schedule_is h.schedule in
+    let same = given_same t.text task.settings t.system r.semantics r.inputs t.accepted (given_here task t.text r t.text_is) in
+    let goes_on = told task.schedule v.schedule (λ text. GoesOnAfter (names_in r.semantics) text r.events) v.schedule_is h.schedule in
     never_both (names_in (semantics_of t.system)) v.schedule v.events r.events (names_apart t.text t.system t.accepted) v.kind
     (subst (λ m. GoesOnAfter (names_in m) v.schedule r.events) same goes_on)
 
 -- and one with a bad line is not played to its end
-not_ended : (files : Files) (bytes : List ℕ) → HasSchedule GoesOnAfter files → IsTrace files bytes → ⊥
-not_ended files bytes v h =
+not_ended : (task : Task) (bytes : List ℕ) → HasSchedule GoesOnAfter task → IsTrace task bytes → ⊥
+not_ended task bytes v h =
     let r = h.run in
     let t = v.text in
-    let same = given_same t.text t.system r.semantics t.accepted (told files.text t.text (λ text. Gives text r.semantics) t.text_is (where_told files.text r.semantics r.gives)) in
-    let spells = told files.schedule v.schedule (λ text. SpellsSchedule (names_in r.semantics) text r.events) v.schedule_is h.schedule in
+    let same = given_same t.text task.settings t.system r.semantics r.inputs t.accepted (given_here task t.text r t.text_is) in
+    let spells = told task.schedule v.schedule (λ text. SpellsSchedule (names_in r.semantics) text r.events) v.schedule_is h.schedule in
     never_both (names_in (semantics_of t.system)) v.schedule r.events v.events (names_apart t.text t.system t.accepted)
     (subst (λ m. SpellsSchedule (names_in m) v.schedule r.events) same spells) v.kind
+
+-- ---- settings
+
+-- settings that give inputs have no offence
+not_both_set : (system : System) (settings : List Assignment) (inputs : Inputs) (r : SettingRefusal) → inputs_given system settings ≡ Some inputs → first (settings_offences system settings) ≡ Some r → ⊥
+not_both_set system settings inputs r given offends =
+    let none = (given_or_refused system settings).1 (subst IsSome (sym given) refl) in none-some r (sym (ap first none) ∙ offends)
+
+-- where a text is accepted and the settings give its system inputs, neither is refused
+not_world_refused : (task : Task) (bytes : List ℕ) (v : HasSystem task.text) (inputs : Inputs) → inputs_given v.system task.settings ≡ Some inputs → IsRefusal Offends task.text bytes ⊎ IsMisset task bytes → ⊥
+not_world_refused task bytes v inputs given (inl h) = not_refused task.text bytes v h
+not_world_refused task bytes v inputs given (inr h) =
+    let o = h.offence in
+    let held = told task.text v.text (λ t. Accepted t o.system) v.text_is (held_told task.text o.system o.holds) in
+    let same = one_system_of_text v.text v.system o.system v.accepted held in
+    not_both_set v.system task.settings inputs h.refusal given (ap (λ s. first (settings_offences s task.settings)) same ∙ o.is)
+
+-- and where they have an offence nothing is played
+not_played : (task : Task) → HasMisset task → Played task → ⊥
+not_played task b r =
+    let t = b.text in
+    let g = given_here task t.text r t.text_is in
+    let same = one_system_of_text t.text t.system g.system t.accepted g.accepted in
+    not_both_set t.system task.settings r.inputs b.refusal (ap (λ s. inputs_given s task.settings) same ∙ g.given) b.is
 
 -- ---- commands
 
@@ -136,29 +173,32 @@ print_outcome text sure LinkFault bytes s h = absurd h
 print_outcome text sure NotARun bytes s h = absurd h
 print_outcome text sure WorldFull bytes s h = absurd h
 
-world_outcome : (files : Files) (sure r : Status) (bytes : List ℕ) → WorldIsSure files sure → IsWritten (OfWorld files) r bytes → Outcome sure r
-world_outcome files sure Done bytes (plays v) h = done
-world_outcome files sure Refused bytes (plays v) h = absurd (not_refused files.text bytes v.text h)
-world_outcome files sure BadSchedule bytes (plays v) h = absurd (not_both files bytes v h)
-world_outcome files sure Done bytes (stops v) h = absurd (not_ended files bytes v h)
-world_outcome files sure Refused bytes (stops v) h = absurd (not_refused files.text bytes v.text h)
-world_outcome files sure BadSchedule bytes (stops v) h = done
-world_outcome files sure Done bytes (refuses b) h = absurd (not_given files.text h.run.semantics b (where_told files.text h.run.semantics h.run.gives))
-world_outcome files sure Refused bytes (refuses b) h = done
-world_outcome files sure BadSchedule bytes (refuses b) h = absurd (not_given files.text h.run.semantics b (where_told files.text h.run.semantics h.run.gives))
-world_outcome files sure ReadFault bytes s h = unread
-world_outcome files sure WriteFault bytes s h = unwritten
-world_outcome files sure NoMemory bytes s h = no_memory
-world_outcome files sure Usage bytes s h = absurd h
-world_outcome files sure LinkFault bytes s h = absurd h
-world_outcome files sure NotARun bytes s h = absurd h
-world_outcome files sure WorldFull bytes s h = absurd h
+world_outcome : (task : Task) (sure r : Status) (bytes : List ℕ) → WorldIsSure task sure → IsWritten (OfWorld task) r bytes → Outcome sure r
+world_outcome task sure Done bytes (plays v) h = done
+world_outcome task sure Refused bytes (plays v) h = absurd (not_world_refused task bytes v.text v.inputs v.given h)
+world_outcome task sure BadSchedule bytes (plays v) h = absurd (not_both task bytes v h)
+world_outcome task sure Done bytes (stops v) h = absurd (not_ended task bytes v h)
+world_outcome task sure Refused bytes (stops v) h = absurd (not_world_refused task bytes v.text v.inputs v.given h)
+world_outcome task sure BadSchedule bytes (stops v) h = done
+world_outcome task sure Done bytes (refuses b) h = absurd (not_given task b h.run)
+world_outcome task sure Refused bytes (refuses b) h = done
+world_outcome task sure BadSchedule bytes (refuses b) h = absurd (not_given task b h.run)
+world_outcome task sure Done bytes (missets b) h = absurd (not_played task b h.run)
+world_outcome task sure Refused bytes (missets b) h = done
+world_outcome task sure BadSchedule bytes (missets b) h = absurd (not_played task b h.run)
+world_outcome task sure ReadFault bytes s h = unread
+world_outcome task sure WriteFault bytes s h = unwritten
+world_outcome task sure NoMemory bytes s h = no_memory
+world_outcome task sure Usage bytes s h = absurd h
+world_outcome task sure LinkFault bytes s h = absurd h
+world_outcome task sure NotARun bytes s h = absurd h
+world_outcome task sure WorldFull bytes s h = absurd h
 
 outcome : (asked : Option Asked) (contents : Contents) (sure r : Status) (bytes : List ℕ) → (command_for asked).is_sure contents sure → IsWritten ((command_for asked).writes contents) r bytes → Outcome sure r
 outcome None contents sure r bytes s h = no_command_outcome sure r bytes s h
 outcome (Some (check system)) contents sure r bytes s h = check_outcome (contents system) sure r bytes s h
 outcome (Some (print system)) contents sure r bytes s h = print_outcome (contents system) sure r bytes s h
-outcome (Some (world system schedule)) contents sure r bytes s h = world_outcome (files_named system schedule contents) sure r bytes s h
+outcome (Some (world system schedule settings)) contents sure r bytes s h = world_outcome (task_of system schedule settings contents) sure r bytes s h
 
 pub sure_status : (asked : Option Asked) (contents : Contents) (r : Status) (before now : Option (List ℕ)) (sb sn ob on : ℕ) → Writes ((command_for asked).writes contents) r before now
     → HasStoreCause r sb sn → HasSinkCause r ob on → (sure : Status) → (command_for asked).is_sure contents sure → IsSure sure sb sn ob on r

@@ -1,8 +1,10 @@
--- A run of what a file says, on a schedule.
-use Rattle.std.specs.Prelude.{◌≡◌, ℕ, List, Option, IfSome}
+-- A run of what a file and settings say, on a schedule.
+use Rattle.std.specs.Prelude.{◌≡◌, ℕ, List, Option, Some, IfSome}
 use Rattle.std.specs.Option.{option_map}
+use Rattle.tap_base.specs.declared.system.Inputs.{Inputs}
 use Rattle.tap_base.specs.declared.system.System.{System}
 use Rattle.abstract_run.specs.Answers.{Answers}
+use Rattle.abstract_run.specs.Opening.{opening_state}
 use Rattle.abstract_run.specs.Run.{AllChooseFirst}
 use Rattle.abstract_run.specs.Semantics.{Semantics, semantics_of}
 use Rattle.abstract_run.specs.declared.label.Event.{Event}
@@ -10,44 +12,55 @@ use Rattle.abstract_run.specs.declared.label.Label.{Label}
 use Rattle.abstract_run.specs.declared.state.State.{State}
 use Rattle.run_text.specs.TraceText.{lines_text, names_in, run_lines}
 use Rattle.tap_front.specs.Accepting.{Accepted}
-use Rattle.world_run.specs.Opening.{opening}
+use Rattle.tap_settings.specs.GivenInputs.{inputs_given}
+use Rattle.tap_settings.specs.SettingText.{Assignment}
 
--- The text gives the record: it is accepted as a system that says this.
-pub record Gives (text : List ℕ) (semantics : Semantics) : Type 0 where
+-- The file holds a text that is accepted as the system, whether or not that is told.
+pub record HoldsSystem (told : Option (List ℕ)) (system : System) : Type 0 where
+  pub text : List ℕ
+  pub text_is : IfSome told (λ t. t ≡ text)
+  pub accepted : Accepted text system
+
+-- The text gives the record, and with the settings the inputs: it is accepted as a system that says this, for which the
+-- settings give these.
+pub record Gives (text : List ℕ) (settings : List Assignment) (semantics : Semantics) (inputs : Inputs) : Type 0 where
   pub system : System
   pub accepted : Accepted text system
   pub says : semantics ≡ semantics_of system
+  pub given : inputs_given system settings ≡ Some inputs
 
--- The file gives the record: what it holds is a text that gives it, whether or not that is told.
-pub record FileGives (told : Option (List ℕ)) (semantics : Semantics) : Type 0 where
+-- The file gives them with the settings: what it holds is a text that does, whether or not that is told.
+pub record FileGives (told : Option (List ℕ)) (settings : List Assignment) (semantics : Semantics) (inputs : Inputs) : Type 0 where
   pub text : List ℕ
   pub text_is : IfSome told (λ t. t ≡ text)
-  pub gives : Gives text semantics
+  pub gives : Gives text settings semantics inputs
 
--- From the opening state the labels answer the events, and end in the last state. Each action that runs is the first
--- enabled one of its process.
-pub record IsRunOf (semantics : Semantics) (events : List Event) (labels : List Label) (last : State) : Type 0 where
-  pub answers : Answers semantics (opening semantics) events labels last
-  pub first : AllChooseFirst semantics (opening semantics) labels
+-- From a state on the labels answer the events, and end in the last state. Each action that runs is the first enabled one
+-- of its process.
+pub record IsRunFrom (semantics : Semantics) (start : State) (events : List Event) (labels : List Label) (last : State) : Type 0 where
+  pub answers : Answers semantics start events labels last
+  pub first : AllChooseFirst semantics start labels
 
--- the contents of the two files of a run, where they are told
-pub record Files : Type 0 where
+-- what a run is given: the contents of its two files, where they are told, and the settings
+pub record Task : Type 0 where
   pub text : Option (List ℕ)
   pub schedule : Option (List ℕ)
+  pub settings : List Assignment
 
--- What the file of the system gives, and a run of it on some events.
-pub record Played (files : Files) : Type 0 where
+-- What the file of the system and the settings give, and a run of it on some events, from its opening state.
+pub record Played (task : Task) : Type 0 where
   pub semantics : Semantics
-  pub gives : FileGives files.text semantics
+  pub inputs : Inputs
+  pub gives : FileGives task.text task.settings semantics inputs
   pub events : List Event
   pub labels : List Label
   pub last : State
-  pub run : IsRunOf semantics events labels last
+  pub run : IsRunFrom semantics (opening_state semantics inputs) events labels last
 
 -- the text of the lines of the labels of a run, and of its datagrams
-abbrev pub lines_of : {files : Files} → Played files → Option (List ℕ)
-lines_of r = option_map lines_text (run_lines r.semantics (opening r.semantics) r.labels)
+abbrev pub lines_of : {task : Task} → Played task → Option (List ℕ)
+lines_of r = option_map lines_text (run_lines r.semantics (opening_state r.semantics r.inputs) r.labels)
 
 -- The schedule is of this kind for the events of a run, where it is told.
-abbrev pub IsOfSchedule : {files : Files} → (List (List ℕ) → List ℕ → List Event → Type 0) → Played files → Type 0
-IsOfSchedule {files = files} Kind r = IfSome files.schedule (λ text. Kind (names_in r.semantics) text r.events)
+abbrev pub IsOfSchedule : {task : Task} → (List (List ℕ) → List ℕ → List Event → Type 0) → Played task → Type 0
+IsOfSchedule {task = task} Kind r = IfSome task.schedule (λ text. Kind (names_in r.semantics) text r.events)

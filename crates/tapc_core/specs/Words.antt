@@ -1,6 +1,10 @@
 -- The commands that words are.
 use Rattle.std.specs.Prelude.{ℕ, Bool, true, false, ◌&&◌, List, [], ◌∷◌, ◌++◌, Option, Some, None, codes, if◌then◌else◌}
+use Rattle.std.specs.Option.{option_map}
 use Rattle.std.specs.Str.{bytes_eq}
+use Rattle.tap_base.specs.Option.{each}
+use Rattle.tap_settings.specs.SettingText.{Assignment}
+use Rattle.tapc_core.specs.SettingWords.{setting_in, settings_among}
 use Rattle.tapc_core.specs.declared.words.Command.{Command}
 use Rattle.tapc_core.specs.declared.words.Command.TheVariants.{Check, Print, World}
 
@@ -8,18 +12,22 @@ use Rattle.tapc_core.specs.declared.words.Command.TheVariants.{Check, Print, Wor
 pub data Asked : Type 0 where
   check : (system : List ℕ) → Asked
   print : (system : List ℕ) → Asked
-  world : (system schedule : List ℕ) → Asked
+  world : (system schedule : List ℕ) (settings : List Assignment) → Asked
 
 -- what a command asks for
 abbrev pub asked_by : Command → Asked
 asked_by (Check system) = check system.now
 asked_by (Print system) = print system.now
-asked_by (World system schedule) = world system.now schedule.now
+asked_by (World system schedule settings) = world system.now schedule.now (settings_among settings.now)
 
 -- a file word is any word that is not empty
 abbrev pub is_file : List ℕ → Bool
 is_file [] = false
 is_file (c ∷ cs) = true
+
+-- the command `world` on these files, where all words behind them are settings
+abbrev pub world_of : List ℕ → List ℕ → List (List ℕ) → Option Asked
+world_of system schedule words = option_map (world system schedule) (each setting_in words)
 
 -- the command that words are, or none
 abbrev pub command_of : List (List ℕ) → Option Asked
@@ -27,8 +35,8 @@ command_of (word ∷ system ∷ []) =
     if bytes_eq word (codes "check") && is_file system then Some (check system)
     else if bytes_eq word (codes "print") && is_file system then Some (print system)
     else None
-command_of (word ∷ system ∷ schedule ∷ []) =
-    if bytes_eq word (codes "world") && is_file system && is_file schedule then Some (world system schedule) else None
+command_of (word ∷ system ∷ schedule ∷ words) =
+    if bytes_eq word (codes "world") && is_file system && is_file schedule then world_of system schedule words else None
 command_of _ = None
 
 -- the line that is written where the words are no command

@@ -1,3 +1,4 @@
 pub mod Closing
 pub mod FileFaults
 pub mod Playing
+pub mod StartFaults

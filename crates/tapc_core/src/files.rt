@@ -1,7 +1,6 @@
 //! The files that a command works on, read.
 
 ghost use Rattle.std.specs.Prelude.{◌≡◌, ℕ, List, Err, IfOk, IfSome, OnOk};
-ghost use Rattle.abstract_run.specs.Runnable.{IsRunnable};
 ghost use Rattle.abstract_run.specs.Semantics.{semantics_of};
 ghost use Rattle.run_text.specs.Names.{AreNames};
 ghost use Rattle.run_text.specs.TraceText.{names_in};
@@ -9,15 +8,14 @@ ghost use Rattle.tap_front.specs.Accepting.{Accepted, IsReadAs};
 ghost use Rattle.tap_front.specs.Offences.{IsMisspelling, Offends};
 ghost use Rattle.tapc_core.specs.Outside.{IsTold};
 ghost use Rattle.tapc_core.specs.Reading.{LeavesText};
-ghost use Rattle.tapc_core.specs.Run.{FileGives};
-ghost use Rattle.tapc_core.specs.commands.World.{files_named};
+ghost use Rattle.tapc_core.specs.Run.{HoldsSystem};
 ghost use Rattle.tapc_core.specs.inner.FileFaults.{HasFileCause, WasRead};
-ghost use Rattle.tapc_core.specs.inner.Playing.{AreOf};
+ghost use Rattle.abstract_run.specs.Runnable.{IsRunnable};
 
 use crate::outside::Store;
-use crate::reading::{ReadError, Reading, read_text, read_whole};
+use crate::reading::{ReadError, Reading, read_text};
 use std::alloc::Global;
-use tap_base::{Ast, List, System};
+use tap_base::{Ast, System};
 use tap_front::{Offence, TOO_LONG, TextFault, accept, tree_of};
 use tap_parser::ParseFault;
 
@@ -60,37 +58,13 @@ impl From<TextFault> for FileFault {
     }
 }
 
-/// Reads the text of a system to its end, and then a schedule.
-pub fn read_files<S: Store>(
-    alloc: Global,
-    system: &str,
-    schedule: &str,
-    store: &mut S,
-) -> Result<(System, List<u8>), FileFault>
-    ensures runnable { IfOk result (λ r. IsRunnable r.0) }
-    ensures apart { IfOk result (λ r. AreNames (names_in (semantics_of r.0))) }
-    ensures read { IfOk result (λ r. AreOf r.0 r.1 (files_named system.now schedule.now (S.contents store.old))) }
-    ensures refused { (o : Offence) → result ≡ Err (FileFault.Refused o) → IfSome (S.contents store.old system.now) (λ text. Offends text o) }
-    ensures left { (o : Offence) → result ≡ Err (FileFault.Refused o) → LeavesText (S.contents store.old system.now) (S.left store.new) }
-    ensures found { WasRead result → IsTold (S.left store.old) → IsTold (S.contents store.old system.now) }
-    ensures found_schedule { OnOk result (IsTold (S.left store.old) → IsTold (S.contents store.old schedule.now)) }
-    ensures cause { HasFileCause (S.faults store.old) (S.faults store.new) result }
-{
-    let system = read_system(alloc, system, store)?;
-    match read_whole(alloc, store, schedule) {
-        Ok(schedule) => Ok((system, schedule)),
-        Err(ReadError::Failed) => Err(FileFault::ReadFault),
-        Err(ReadError::NoMemory) => Err(FileFault::NoMemory),
-    }
-}
-
 /// Reads the text of a system, and the system that it is accepted as. A text that is too long is refused L0
 /// at 1:1, whatever it holds.
 pub fn read_system<S: Store>(alloc: Global, name: &str, store: &mut S) -> Result<System, FileFault>
     ensures runnable { IfOk result IsRunnable }
     ensures apart { IfOk result (λ s. AreNames (names_in (semantics_of s))) }
     ensures accepted { IfOk result (λ s. IfSome (S.contents store.old name.now) (λ text. Accepted text s)) }
-    ensures gives { IfOk result (λ s. FileGives (S.contents store.old name.now) (semantics_of s)) }
+    ensures holds { IfOk result (λ s. HoldsSystem (S.contents store.old name.now) s) }
     ensures refused { (o : Offence) → result ≡ Err (FileFault.Refused o) → IfSome (S.contents store.old name.now) (λ text. Offends text o) }
     ensures left { WasRead result → LeavesText (S.contents store.old name.now) (S.left store.new) }
     ensures found { WasRead result → IsTold (S.left store.old) → IsTold (S.contents store.old name.now) }

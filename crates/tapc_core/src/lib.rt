@@ -4,6 +4,7 @@
 mod calls;
 mod closing;
 mod files;
+mod laws;
 mod lines;
 mod memory_sink;
 mod memory_store;
@@ -11,10 +12,13 @@ mod outside;
 mod play;
 mod program;
 mod reading;
+mod settings;
+mod start;
 mod status;
 mod words;
 
 pub use closing::close;
+pub use laws::setting_is_spelled;
 pub use memory_sink::MemorySink;
 pub use memory_store::MemoryStore;
 pub use outside::{Failed, Sink, Store};

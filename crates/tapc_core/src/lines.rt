@@ -2,15 +2,14 @@
 
 ghost use Rattle.std.specs.Prelude.{◌≡◌, ◌≤◌, ◌<◌, ◌^◌, ◌⊎◌, [], length, MatchOption, OnSome};
 ghost use Rattle.abstract_run.specs.CellCount.{cells_in};
-ghost use Rattle.abstract_run.specs.Runnable.{IsRunnable};
 ghost use Rattle.abstract_run.specs.Semantics.{semantics_of};
 ghost use Rattle.run_text.specs.Names.{AreNames};
 ghost use Rattle.run_text.specs.ScheduleText.{IsOfNoEvent, SpellsEvent, most_events};
 ghost use Rattle.run_text.specs.TraceText.{names_in};
 ghost use Rattle.tapc_core.specs.Outside.{HasCause};
 ghost use Rattle.tapc_core.specs.inner.Playing.{HasPlayCause, Moves, Plays};
+ghost use Rattle.abstract_run.specs.Runnable.{IsRunnable};
 ghost use Rattle.world_run.specs.Names.{AreNamesOf};
-ghost use Rattle.world_run.specs.Opening.{opening};
 ghost use Rattle.world_run.specs.Served.{IsSteady};
 
 use crate::outside::{Failed, Sink};
@@ -69,12 +68,11 @@ pub fn play_lines<O: Sink>(
 ) -> Result<(), Stop>
     requires runnable { IsRunnable world.old.system }
     requires steady { IsSteady (semantics_of world.old.system) world.old.state }
-    requires opening { world.old.state ≡ opening (semantics_of world.old.system) }
     requires no_cells { cells_in world.old.state ≡ 0 }
     requires names { AreNamesOf (semantics_of world.old.system) names.now }
     requires apart { AreNames (names_in (semantics_of world.old.system)) }
     requires empty { page.old.items ≡ [] }
-    ensures plays { Plays (semantics_of world.old.system) schedule.now (O.written out.old) result world.new.state (O.written out.new) page.new.items }
+    ensures plays { Plays (semantics_of world.old.system) world.old.state schedule.now (O.written out.old) result world.new.state (O.written out.new) page.new.items }
     ensures system { world.new.system ≡ world.old.system }
     ensures cause { HasPlayCause (O.faults out.old) (O.faults out.new) result }
 {

@@ -2,19 +2,20 @@
 
 ghost use Rattle.std.specs.Prelude.{◌≡◌, ◌++◌, IfOk, string_bytes};
 ghost use Rattle.abstract_run.specs.CellCount.{cells_in};
-ghost use Rattle.abstract_run.specs.Runnable.{IsRunnable};
+ghost use Rattle.abstract_run.specs.Fits.{InputsFit};
+ghost use Rattle.abstract_run.specs.Opening.{opening_state};
 ghost use Rattle.abstract_run.specs.Semantics.{semantics_of};
 ghost use Rattle.run_text.specs.Names.{AreNames};
 ghost use Rattle.run_text.specs.TraceText.{last_lines, lines_text, names_in};
 ghost use Rattle.tapc_core.specs.Causes.{HasSinkCause};
 ghost use Rattle.tapc_core.specs.Lines.{bad_line, no_memory_line};
-ghost use Rattle.tapc_core.specs.Run.{Files};
+ghost use Rattle.tapc_core.specs.Run.{Task};
 ghost use Rattle.tapc_core.specs.Written.{Writes};
 ghost use Rattle.tapc_core.specs.commands.World.{IsPlayed, OfWorld};
 ghost use Rattle.tapc_core.specs.inner.Closing.{ClosesOr};
 ghost use Rattle.tapc_core.specs.inner.Playing.{AreOf};
+ghost use Rattle.abstract_run.specs.Runnable.{IsRunnable};
 ghost use Rattle.world_run.specs.Names.{AreNamesOf};
-ghost use Rattle.world_run.specs.Opening.{opening};
 ghost use Rattle.world_run.specs.Served.{IsSteady};
 
 use crate::closing::{close, close_behind};
@@ -23,24 +24,31 @@ use crate::outside::Sink;
 use crate::status::Status;
 use run_text::{Names, names_of};
 use std::alloc::Global;
-use tap_base::{NoMemory, System};
+use tap_base::{Inputs, NoMemory, System};
 use world_run::World;
 
 /// The line that is written where memory was refused.
 pub const NO_MEMORY: &[u8] = b"no memory\n";
 
-/// Plays a system on a schedule, writes the trace, and answers how that ended.
-pub fn play<O: Sink>(alloc: Global, system: System, schedule: &[u8], out: &mut O) -> Status
+/// Plays a system with inputs on a schedule, writes the trace, and answers how that ended.
+pub fn play<O: Sink>(
+    alloc: Global,
+    system: System,
+    inputs: &Inputs,
+    schedule: &[u8],
+    out: &mut O,
+) -> Status
     requires runnable { IsRunnable system }
+    requires fit { InputsFit (semantics_of system) inputs.now }
     requires apart { AreNames (names_in (semantics_of system)) }
-    ensures writes { (files : Files) → AreOf system schedule.now files → Writes (OfWorld files) result (O.written out.old) (O.written out.new) }
+    ensures writes { (task : Task) → AreOf system inputs.now schedule.now task → Writes (OfWorld task) result (O.written out.old) (O.written out.new) }
     ensures answer { IsPlayed result }
     ensures cause { HasSinkCause result (O.faults out.old) (O.faults out.new) }
 {
     let Ok(names) = names_of(alloc, &system) else {
         return close(NO_MEMORY, out, Status::NoMemory);
     };
-    match World::new(alloc, system) {
+    match World::new(alloc, system, inputs) {
         Ok(mut world) => play_world(alloc, &mut world, &names, schedule, out),
         Err(NoMemory) => close(NO_MEMORY, out, Status::NoMemory),
     }
@@ -56,11 +64,10 @@ fn play_world<O: Sink>(
 ) -> Status
     requires runnable { IsRunnable world.old.system }
     requires steady { IsSteady (semantics_of world.old.system) world.old.state }
-    requires opening { world.old.state ≡ opening (semantics_of world.old.system) }
     requires no_cells { cells_in world.old.state ≡ 0 }
     requires names { AreNamesOf (semantics_of world.old.system) names.now }
     requires apart { AreNames (names_in (semantics_of world.old.system)) }
-    ensures writes { (files : Files) → AreOf world.old.system schedule.now files → Writes (OfWorld files) result (O.written out.old) (O.written out.new) }
+    ensures writes { (task : Task) (inputs : Inputs) → world.old.state ≡ opening_state (semantics_of world.old.system) inputs → AreOf world.old.system inputs schedule.now task → Writes (OfWorld task) result (O.written out.old) (O.written out.new) }
     ensures answer { IsPlayed result }
     ensures cause { HasSinkCause result (O.faults out.old) (O.faults out.new) }
 {

@@ -1,39 +1,46 @@
 //! The top call.
 
 ghost use Rattle.std.specs.Prelude.{◌≡◌, ℕ, List, None, Some};
+ghost use Rattle.tap_settings.specs.Lines.{refused_setting_line};
+ghost use Rattle.tap_settings.specs.SettingText.{Assignment};
 ghost use Rattle.tapc_core.specs.Causes.{HasSinkCause, HasStoreCause, IsSure};
 ghost use Rattle.tapc_core.specs.Command.{AreFound};
+ghost use Rattle.tapc_core.specs.Lines.{no_memory_line};
 ghost use Rattle.tapc_core.specs.Outside.{IsTold};
+ghost use Rattle.tapc_core.specs.SettingWords.{settings_among};
 ghost use Rattle.tapc_core.specs.Words as asked;
 ghost use Rattle.tapc_core.specs.Written.{Puts, Writes};
 ghost use Rattle.tapc_core.specs.commands.All.{command_for};
 ghost use Rattle.tapc_core.specs.commands.Check.{check_command};
 ghost use Rattle.tapc_core.specs.commands.Print.{print_command};
-ghost use Rattle.tapc_core.specs.commands.World.{IsTrace, files_named, world_command};
+ghost use Rattle.tapc_core.specs.commands.World.{IsTrace, task_of, world_command};
+ghost use Rattle.tapc_core.specs.inner.Closing.{ClosesOr};
 ghost use Rattle.tapc_core.specs.inner.FileFaults.{GivesUp};
 
 use crate::closing::close;
-use crate::files::{FileFault, read_files, read_system, read_tree};
+use crate::files::{FileFault, read_system, read_tree};
 use crate::outside::{Sink, Store};
 use crate::play::{NO_MEMORY, play};
+use crate::start::{Start, StartFault, begin};
 use crate::status::Status;
 use crate::words::{Command, command_of, usage_line};
 use std::alloc::Global;
 use tap_base::{NoMemory, Text};
 use tap_front::{Offence, refused_line};
 use tap_printer::print;
+use tap_settings::{SettingRefusal, refused_setting_line};
 
 /// What the program does: it takes the words of the command line, and answers the status.
 pub fn run<S: Store, O: Sink>(alloc: Global, words: &[Text], store: &mut S, out: &mut O) -> Status
     // World puts the trace of a run that answers the whole schedule.
-    ensures done { (system schedule : List ℕ) → asked.command_of words.now ≡ Some (asked.world system schedule) → result ≡ Status.Done → Puts (IsTrace (files_named system schedule (S.contents store.old))) (O.written out.old) (O.written out.new) }
+    ensures done { (system schedule : List ℕ) (settings : List Assignment) → asked.command_of words.now ≡ Some (asked.world system schedule settings) → result ≡ Status.Done → Puts (IsTrace (task_of system schedule settings (S.contents store.old))) (O.written out.old) (O.written out.new) }
     // Each command answers only what its work can give,
     ensures answers { (command_for (asked.command_of words.now)).answers result }
     // and writes what belongs to the status, or where a put fails a front of what belongs to some status.
     ensures writes { Writes ((command_for (asked.command_of words.now)).writes (S.contents store.old)) result (O.written out.old) (O.written out.new) }
     // Of a store that tells, a file that is not there is never read.
     ensures found { IsTold (S.left store.old) → AreFound ((command_for (asked.command_of words.now)).reads result) (S.contents store.old) }
-    // Where a text is refused, no other file was begun.
+    // Where a text or a setting is refused, no other file was begun.
     ensures leaves { (command_for (asked.command_of words.now)).leaves (S.contents store.old) result (S.left store.new) }
     ensures store_cause { HasStoreCause result (S.faults store.old) (S.faults store.new) }
     ensures sink_cause { HasSinkCause result (O.faults out.old) (O.faults out.new) }
@@ -55,7 +62,13 @@ fn obey<S: Store, O: Sink>(alloc: Global, words: &[Text], store: &mut S, out: &m
     match command_of(words) {
         Some(Command::Check { system }) => check(alloc, system, store, out),
         Some(Command::Print { system }) => print_tree(alloc, system, store, out),
-        Some(Command::World { system, schedule }) => world(alloc, system, schedule, store, out),
+        Some(
+            Command::World {
+                system,
+                schedule,
+                settings,
+            },
+        ) => world(alloc, system, schedule, settings, store, out),
         None => close(usage_line(), out, Status::Usage),
     }
 }
@@ -93,24 +106,43 @@ fn print_tree<S: Store, O: Sink>(alloc: Global, system: &str, store: &mut S, out
     }
 }
 
-/// Runs the world of a system on a schedule, whose files have these names.
+/// Runs the world of a system on a schedule, whose files have these names, with the settings among words.
 fn world<S: Store, O: Sink>(
     alloc: Global,
     system: &str,
     schedule: &str,
+    settings: &[Text],
     store: &mut S,
     out: &mut O,
 ) -> Status
-    ensures writes { Writes ((world_command system.now schedule.now).writes (S.contents store.old)) result (O.written out.old) (O.written out.new) }
-    ensures answers { (world_command system.now schedule.now).answers result }
-    ensures found { IsTold (S.left store.old) → AreFound ((world_command system.now schedule.now).reads result) (S.contents store.old) }
-    ensures leaves { (world_command system.now schedule.now).leaves (S.contents store.old) result (S.left store.new) }
+    ensures writes { Writes ((world_command system.now schedule.now (settings_among settings.now)).writes (S.contents store.old)) result (O.written out.old) (O.written out.new) }
+    ensures answers { (world_command system.now schedule.now (settings_among settings.now)).answers result }
+    ensures found { IsTold (S.left store.old) → AreFound ((world_command system.now schedule.now (settings_among settings.now)).reads result) (S.contents store.old) }
+    ensures leaves { (world_command system.now schedule.now (settings_among settings.now)).leaves (S.contents store.old) result (S.left store.new) }
     ensures store_cause { HasStoreCause result (S.faults store.old) (S.faults store.new) }
     ensures sink_cause { HasSinkCause result (O.faults out.old) (O.faults out.new) }
 {
-    match read_files(alloc, system, schedule, store) {
-        Ok((system, schedule)) => play(alloc, system, schedule.as_slice(), out),
-        Err(fault) => give_up(alloc, fault, out),
+    match begin(alloc, system, schedule, settings, store) {
+        Ok(
+            Start {
+                system,
+                inputs,
+                schedule,
+            },
+        ) => play(alloc, system, &inputs, schedule.as_slice(), out),
+        Err(StartFault::Misset(refusal)) => close_misset(alloc, &refusal, out),
+        Err(StartFault::File(fault)) => give_up(alloc, fault, out),
+    }
+}
+
+/// Puts the line of an offence of settings.
+fn close_misset<O: Sink>(alloc: Global, refusal: &SettingRefusal, out: &mut O) -> Status
+    ensures closes { ClosesOr Status.Refused (refused_setting_line refusal.now) no_memory_line (O.written out.old) (O.written out.new) result }
+    ensures cause { HasSinkCause result (O.faults out.old) (O.faults out.new) }
+{
+    match refused_setting_line(alloc, refusal) {
+        Ok(text) => close(text.as_bytes(), out, Status::Refused),
+        Err(NoMemory) => close(NO_MEMORY, out, Status::NoMemory),
     }
 }
 

@@ -4,10 +4,11 @@ ghost use Rattle.std.specs.Prelude.{◌≡◌, [], ◌∷◌};
 ghost use Rattle.std.specs.Option.{option_map};
 ghost use Rattle.tapc_core.specs.Words.{asked_by, command_of, is_file, usage_line};
 
+use crate::settings::are_settings;
 use tap_base::Text;
 
 /// A command, with the words that it takes.
-#[derive(Clone, Copy, Debug, PartialEq, Eq)]
+#[derive(Clone, Copy, Debug)]
 pub enum Command<'a> {
     /// Checks the text of a system.
     Check {
@@ -25,6 +26,8 @@ pub enum Command<'a> {
         system: &'a str,
         /// The name of the schedule's file.
         schedule: &'a str,
+        /// The words of the settings.
+        settings: &'a [Text],
     },
 }
 
@@ -34,7 +37,7 @@ pub fn command_of<'a>(words: &'a [Text]) -> Option<Command<'a>>
 {
     match words {
         [word, system] => text_command_of(word, system),
-        [word, system, schedule] => world_of(word, system, schedule),
+        [word, system, schedule, settings @ ..] => world_of(word, system, schedule, settings),
         _ => None,
     }
 }
@@ -56,14 +59,20 @@ fn text_command_of<'a>(word: &'a Text, system: &'a Text) -> Option<Command<'a>>
     None
 }
 
-/// The command `world` on the files of a system and a schedule.
-fn world_of<'a>(word: &'a Text, system: &'a Text, schedule: &'a Text) -> Option<Command<'a>>
-    ensures { option_map asked_by result ≡ command_of (word.now ∷ system.now ∷ schedule.now ∷ []) }
+/// The command `world` on the files of a system and a schedule, with settings.
+fn world_of<'a>(
+    word: &'a Text,
+    system: &'a Text,
+    schedule: &'a Text,
+    settings: &'a [Text],
+) -> Option<Command<'a>>
+    ensures { option_map asked_by result ≡ command_of (word.now ∷ system.now ∷ schedule.now ∷ settings.now) }
 {
-    if word.as_str() == "world" && is_file(system) && is_file(schedule) {
+    if word.as_str() == "world" && is_file(system) && is_file(schedule) && are_settings(settings) {
         return Some(Command::World {
             system: system.as_str(),
             schedule: schedule.as_str(),
+            settings,
         });
     }
     None

@@ -1,4 +1,3 @@
-pub mod Inputless
 pub mod Labels
 pub mod Lines
 pub mod Turns

@@ -1,13 +1,14 @@
 //! A system, and the state of a run of it.
 
-ghost use Rattle.std.specs.Prelude.{◌≡◌, [], map, ◌++◌, ◌+◌, ◌<◌, ◌≤◌, Some, IfOk, OnOk, OnErr, length, string_bytes};
+ghost use Rattle.std.specs.Prelude.{◌≡◌, ◌++◌, ◌+◌, ◌<◌, ◌≤◌, Some, IfOk, OnOk, OnErr, length, string_bytes};
 ghost use Rattle.abstract_run.specs.CellCount.{cells_in};
+ghost use Rattle.abstract_run.specs.Fits.{InputsFit};
+ghost use Rattle.abstract_run.specs.Opening.{opening_state};
 ghost use Rattle.abstract_run.specs.Progress.{IsPossible};
-ghost use Rattle.abstract_run.specs.Runnable.{IsRunnable};
 ghost use Rattle.abstract_run.specs.Semantics.{semantics_of};
 ghost use Rattle.run_text.specs.ScheduleText.{AreTwo, IsListed};
 ghost use Rattle.run_text.specs.TraceText.{last_lines, lines_text};
-ghost use Rattle.world_run.specs.Opening.{opening};
+ghost use Rattle.abstract_run.specs.Runnable.{IsRunnable};
 ghost use Rattle.world_run.specs.Names.{AreNamesOf};
 ghost use Rattle.world_run.specs.Served.{IsSteady, Served};
 ghost use Rattle.world_run.specs.inner.Serving.{Did, DidOrVoid, IsNextOf, Tried, action_count};
@@ -26,16 +27,16 @@ pub struct World {
 }
 
 impl World {
-    /// The system in its opening state.
-    pub fn new(alloc: Global, system: System) -> Result<World, NoMemory>
-        requires { IsRunnable system }
+    /// The system in its opening state, with a value for each of its inputs.
+    pub fn new(alloc: Global, system: System, inputs: &Inputs) -> Result<World, NoMemory>
+        requires runnable { IsRunnable system }
+        requires inputs { InputsFit (semantics_of system) inputs.now }
         ensures system { IfOk result (λ w. w.system ≡ system) }
-        ensures opening { IfOk result (λ w. w.state ≡ opening (semantics_of system)) }
+        ensures opening { IfOk result (λ w. w.state ≡ opening_state (semantics_of system) inputs.now) }
         ensures steady { IfOk result (λ w. IsSteady (semantics_of system) w.state) }
         ensures no_cells { IfOk result (λ w. cells_in w.state ≡ 0) }
     {
-        let inputs = no_inputs(alloc, &system)?;
-        let state = init(alloc, &system, &inputs)?;
+        let state = init(alloc, &system, inputs)?;
         Ok(World { system, state })
     }
 
@@ -273,15 +274,4 @@ impl World {
             .actions
             .len() as u32
     }
-}
-
-/// No inputs: an empty list for each process.
-fn no_inputs(alloc: Global, system: &System) -> Result<Inputs, NoMemory>
-    ensures { IfOk result (λ inputs. inputs ≡ record { of = map (λ p. []) system.now.processes }) }
-{
-    let mut of = List::new(alloc);
-    for _ in system.processes.as_slice() {
-        of.push(List::new(alloc))?;
-    }
-    Ok(Inputs { of })
 }

@@ -1,4 +1,4 @@
--- Facts of each element that the limits of the small language ask for.
+-- Facts of each element that the limits of small systems ask for.
 use Rattle.std.specs.Prelude.{◌≡◌, ℕ, List, [], ◌∷◌, ◌⊎◌}
 use Rattle.tap_base.specs.declared.system.System.{System}
 use Rattle.tap_base.specs.declared.system.Action.{Action}

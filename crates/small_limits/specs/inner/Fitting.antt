@@ -1,16 +1,15 @@
--- What the small grammar can write, with values that fit.
+-- Plain statements, actions and processes, with values that fit.
 use Rattle.std.specs.Prelude.{◌≡◌, ℕ, ◌≤◌, ◌%◌, length, map, List, [], ◌∷◌, slice_get}
 use Rattle.tap_base.specs.declared.system.System.{System}
 use Rattle.tap_base.specs.declared.system.Message.{Message}
 use Rattle.tap_base.specs.declared.system.Field.{Field}
 use Rattle.tap_base.specs.declared.system.Process.{Process}
-use Rattle.tap_base.specs.declared.system.Var.{Var}
 use Rattle.tap_base.specs.declared.system.Action.{Action}
 use Rattle.tap_base.specs.declared.tree.Expr.{Expr}
 use Rattle.tap_base.specs.declared.tree.Stmt.{Stmt}
 use Rattle.tap_base.specs.declared.tree.Target.{Target}
 use Rattle.tap_base.specs.Lists.{Each}
-use Rattle.small_limits.specs.Small.{Readable, Ranges, IsAtom, IsPlainMessage, IsPlainAction, IsPlainAssignment, IsPlainProcess, IsPlainSend, IsPlainStmt, AssignmentFits, SendFits, StmtFits, ValueFits, BoundsAreOrdered, LimitsAreKept, MessagesAreToldApart, NamesAreDistinct, NamesAreShort, PeersAreOthers, SendsAreReceived, WidthsAreWhole, bits_of, free_range, fields_of, ranges_in}
+use Rattle.small_limits.specs.Small.{Readable, Ranges, IsAtom, IsPlainMessage, IsPlainAction, IsPlainAssignment, IsPlainProcess, IsPlainSend, IsPlainStmt, AssignmentFits, SendFits, StmtFits, ValueFits, BoundsAreOrdered, LimitsAreKept, MessagesAreToldApart, NamesAreDistinct, PeersAreOthers, SendsAreReceived, WidthsAreWhole, bits_of, free_range, fields_of, var_ranges, ranges_in}
 use Rattle.small_limits.specs.declared.atoms.Reads.{Reads}
 
 -- ---- counts and widths
@@ -23,25 +22,19 @@ IsWhole f = (1 ≤ f.width) × (f.width ≤ 56) × (f.width % 8 ≡ 0)
 abbrev pub IsShortMessage : Message → Type 0
 IsShortMessage m = (length m.fields ≤ 256) × (bits_of m ≤ 8192)
 
--- some processes; counts, names, bounds and widths keep their limits
+-- counts, bounds and widths keep their limits
 pub record IsMeasured (s : System) : Type 0 where
-  pub some_process : 1 ≤ length s.processes
   pub limits : LimitsAreKept s
-  pub short : NamesAreShort s
   pub ordered : BoundsAreOrdered s
   pub whole : WidthsAreWhole s
 
 -- ---- values and statements
 
--- no more than the variables
-abbrev pub cells_of : List Var → Readable
-cells_of vars = record { cells = length vars; fields = 0 }
-
 abbrev pub readable_of : Reads → Readable
-readable_of r = record { cells = length r.vars.now; fields = length r.fields.now }
+readable_of r = record { cells = length r.vars.now; inputs = length r.inputs.now; fields = length r.fields.now }
 
 abbrev pub ranges_of : Reads → Ranges
-ranges_of r = record { cells = map (λ v. v.range) r.vars.now; fields = map free_range r.fields.now }
+ranges_of r = record { cells = var_ranges r.vars.now; inputs = var_ranges r.inputs.now; fields = map free_range r.fields.now }
 
 abbrev pub IsFittingAssignment : Reads → List Target → List Expr → Type 0
 IsFittingAssignment r targets values = IsPlainAssignment r.vars.now (readable_of r) targets values × AssignmentFits (ranges_of r) targets values
@@ -62,15 +55,15 @@ IsFittingStmt s r stmt = IsPlainStmt s r.vars.now (readable_of r) stmt × StmtFi
 -- ---- actions and processes
 
 -- Each value of the action lies within its target or its field.
-abbrev pub ActionFits : System → List Var → Action → Type 0
-ActionFits s vars a = Each (StmtFits s.messages (ranges_in s.messages vars a.guard)) a.body
+abbrev pub ActionFits : System → Process → Action → Type 0
+ActionFits s p a = Each (StmtFits s.messages (ranges_in s.messages p a.guard)) a.body
 
 abbrev pub IsFittingAction : System → Process → Action → Type 0
-IsFittingAction s p a = IsPlainAction s p a × ActionFits s p.vars a
+IsFittingAction s p a = IsPlainAction s p a × ActionFits s p a
 
 -- a plain process whose values fit
 abbrev pub IsFittingProcess : System → Process → Type 0
-IsFittingProcess s p = IsPlainProcess s p × Each (ActionFits s p.vars) p.actions
+IsFittingProcess s p = IsPlainProcess s p × Each (ActionFits s p) p.actions
 
 -- plain messages, and plain processes whose values fit
 abbrev pub IsShaped : System → Type 0

@@ -1,58 +1,78 @@
--- The command `world`: a run of a system on a schedule.
+-- The command `world`: a run of a system on a schedule, with the inputs that settings give.
 use Rattle.std.specs.Prelude.{◌≡◌, ◌⊎◌, ⊤, ℕ, ◌+◌, List, [], ◌∷◌, ◌++◌, length, Some}
+use Rattle.tap_base.specs.declared.system.Inputs.{Inputs}
+use Rattle.tap_base.specs.declared.system.System.{System}
+use Rattle.abstract_run.specs.Opening.{opening_state}
 use Rattle.abstract_run.specs.Semantics.{semantics_of}
 use Rattle.abstract_run.specs.declared.label.Event.{Event}
 use Rattle.run_text.specs.OneTrace.{IsTraceOf}
 use Rattle.run_text.specs.ScheduleText.{BeginsSchedule, GoesOnAfter, SpellsSchedule}
 use Rattle.run_text.specs.TraceText.{names_in}
 use Rattle.tap_front.specs.Offences.{Offends}
+use Rattle.tap_settings.specs.GivenInputs.{inputs_given}
+use Rattle.tap_settings.specs.Lines.{refused_setting_line}
+use Rattle.tap_base.specs.ListWords.{first}
+use Rattle.tap_settings.specs.Offences.{settings_offences}
+use Rattle.tap_settings.specs.SettingText.{Assignment}
+use Rattle.tap_settings.specs.declared.refusals.SettingRefusal.{SettingRefusal}
 use Rattle.tapc_core.specs.Command.{Command, Contents}
 use Rattle.tapc_core.specs.Lines.{bad_line, no_memory_line, read_fault_line}
-use Rattle.tapc_core.specs.Run.{Files, IsOfSchedule, Played, lines_of}
+use Rattle.tapc_core.specs.Run.{HoldsSystem, IsOfSchedule, Played, Task, lines_of}
 use Rattle.tapc_core.specs.commands.Text.{HasOffence, HasSystem, IsRefusal, leaves_refused}
 use Rattle.tapc_core.specs.declared.status.Status.{Status}
 use Rattle.tapc_core.specs.declared.status.Status.TheVariants.{Done, Refused, BadSchedule, ReadFault, WriteFault, NoMemory}
-use Rattle.world_run.specs.Opening.{opening}
 
--- the two files of these names
-abbrev pub files_named : List ℕ → List ℕ → Contents → Files
-files_named system schedule contents = record { text = contents system; schedule = contents schedule }
+-- the two files of these names, and the settings
+abbrev pub task_of : List ℕ → List ℕ → List Assignment → Contents → Task
+task_of system schedule settings contents = record { text = contents system; schedule = contents schedule; settings = settings }
 
 -- ---- what is written
 
 -- The trace of a run on the whole schedule.
-pub record IsTrace (files : Files) (bytes : List ℕ) : Type 0 where
-  pub run : Played files
+pub record IsTrace (task : Task) (bytes : List ℕ) : Type 0 where
+  pub run : Played task
   pub schedule : IsOfSchedule SpellsSchedule run
-  pub is : IsTraceOf run.semantics (opening run.semantics) run.labels bytes
+  pub is : IsTraceOf run.semantics (opening_state run.semantics run.inputs) run.labels bytes
 
 -- The lines of a run on the lines before one that is none, and the number of that line.
-pub record IsBadTrace (files : Files) (bytes : List ℕ) : Type 0 where
-  pub run : Played files
+pub record IsBadTrace (task : Task) (bytes : List ℕ) : Type 0 where
+  pub run : Played task
   pub schedule : IsOfSchedule GoesOnAfter run
   pub lines : List ℕ
   pub shown : lines_of run ≡ Some lines
   pub is : bytes ≡ lines ++ bad_line (length run.events + 1)
 
 -- The lines of a run on some first lines of the schedule.
-pub record IsFrontOfTrace (files : Files) (bytes : List ℕ) : Type 0 where
-  pub run : Played files
+pub record IsFrontOfTrace (task : Task) (bytes : List ℕ) : Type 0 where
+  pub run : Played task
   pub schedule : IsOfSchedule BeginsSchedule run
   pub is : lines_of run ≡ Some bytes
 
 -- Nothing, or the lines of a run on some first lines of the schedule, and that memory was refused.
-pub record IsUnfinished (files : Files) (bytes : List ℕ) : Type 0 where
+pub record IsUnfinished (task : Task) (bytes : List ℕ) : Type 0 where
   pub front : List ℕ
-  pub shown : (front ≡ []) ⊎ IsFrontOfTrace files front
+  pub shown : (front ≡ []) ⊎ IsFrontOfTrace task front
   pub is : bytes ≡ front ++ no_memory_line
 
-abbrev pub OfWorld : Files → Status → List ℕ → Type 0
-OfWorld files Done bytes = IsTrace files bytes
-OfWorld files Refused bytes = IsRefusal Offends files.text bytes
-OfWorld files BadSchedule bytes = IsBadTrace files bytes
-OfWorld files ReadFault bytes = bytes ≡ read_fault_line
-OfWorld files NoMemory bytes = IsUnfinished files bytes
-OfWorld files _ bytes = ⊥
+-- The first offence that the settings have for the system which the file holds.
+pub record Missets (task : Task) (refusal : SettingRefusal) : Type 0 where
+  pub system : System
+  pub holds : HoldsSystem task.text system
+  pub is : first (settings_offences system task.settings) ≡ Some refusal
+
+-- The line of that offence.
+pub record IsMisset (task : Task) (bytes : List ℕ) : Type 0 where
+  pub refusal : SettingRefusal
+  pub offence : Missets task refusal
+  pub is : bytes ≡ refused_setting_line refusal
+
+abbrev pub OfWorld : Task → Status → List ℕ → Type 0
+OfWorld task Done bytes = IsTrace task bytes
+OfWorld task Refused bytes = IsRefusal Offends task.text bytes ⊎ IsMisset task bytes
+OfWorld task BadSchedule bytes = IsBadTrace task bytes
+OfWorld task ReadFault bytes = bytes ≡ read_fault_line
+OfWorld task NoMemory bytes = IsUnfinished task bytes
+OfWorld task _ bytes = ⊥
 
 -- ---- what is answered
 
@@ -73,33 +93,43 @@ IsPlayed WriteFault = ⊤
 IsPlayed NoMemory = ⊤
 IsPlayed _ = ⊥
 
--- Told files: the text is accepted as a system, and the schedule is of this kind for it and some events.
-pub record HasSchedule (Kind : List (List ℕ) → List ℕ → List Event → Type 0) (files : Files) : Type 0 where
-  pub text : HasSystem files.text
+-- Told files: the text is accepted as a system, the settings give it inputs, and the schedule is of this kind for it and
+-- some events.
+pub record HasSchedule (Kind : List (List ℕ) → List ℕ → List Event → Type 0) (task : Task) : Type 0 where
+  pub text : HasSystem task.text
+  pub inputs : Inputs
+  pub given : inputs_given text.system task.settings ≡ Some inputs
   pub schedule : List ℕ
-  pub schedule_is : files.schedule ≡ Some schedule
+  pub schedule_is : task.schedule ≡ Some schedule
   pub events : List Event
   pub kind : Kind (names_in (semantics_of text.system)) schedule events
 
-pub data WorldIsSure (files : Files) : Status → Type 0 where
-  plays : HasSchedule SpellsSchedule files → WorldIsSure files Done
-  stops : HasSchedule GoesOnAfter files → WorldIsSure files BadSchedule
-  refuses : HasOffence Offends files.text → WorldIsSure files Refused
+-- A told text is accepted as a system, and the settings have an offence for it.
+pub record HasMisset (task : Task) : Type 0 where
+  pub text : HasSystem task.text
+  pub refusal : SettingRefusal
+  pub is : first (settings_offences text.system task.settings) ≡ Some refusal
+
+pub data WorldIsSure (task : Task) : Status → Type 0 where
+  plays : HasSchedule SpellsSchedule task → WorldIsSure task Done
+  stops : HasSchedule GoesOnAfter task → WorldIsSure task BadSchedule
+  refuses : HasOffence Offends task.text → WorldIsSure task Refused
+  missets : HasMisset task → WorldIsSure task Refused
 
 -- ---- the command
 
--- the schedule is read once the text is accepted
+-- the schedule is read once the text is accepted, and the settings give inputs
 abbrev pub reads_both : List ℕ → List ℕ → Status → List (List ℕ)
 reads_both system schedule Done = system ∷ schedule ∷ []
 reads_both system schedule BadSchedule = system ∷ schedule ∷ []
 reads_both system schedule Refused = system ∷ []
 reads_both system schedule _ = []
 
-abbrev pub world_command : List ℕ → List ℕ → Command
-world_command system schedule = record {
+abbrev pub world_command : List ℕ → List ℕ → List Assignment → Command
+world_command system schedule settings = record {
   answers = IsOfWorld;
   reads = reads_both system schedule;
-  writes = λ contents. OfWorld (files_named system schedule contents);
-  is_sure = λ contents. WorldIsSure (files_named system schedule contents);
+  writes = λ contents. OfWorld (task_of system schedule settings contents);
+  is_sure = λ contents. WorldIsSure (task_of system schedule settings contents);
   leaves = λ contents. leaves_refused (contents system);
 }

@@ -2,6 +2,7 @@
 use Rattle.std.specs.Prelude.{◌≡◌, ◌⊎◌, ℕ, ◌+◌, ◌<◌, ◌≤◌, List, [], ◌∷◌, ◌++◌, length, IfSome, Option, Some, Result, Ok, Err}
 use Rattle.std.specs.Io.KnownBytes.{Appends}
 use Rattle.tap_base.specs.Lists.{Each}
+use Rattle.tap_base.specs.declared.system.Inputs.{Inputs}
 use Rattle.tap_base.specs.declared.system.System.{System}
 use Rattle.abstract_run.specs.Semantics.{Semantics, semantics_of}
 use Rattle.abstract_run.specs.declared.label.Event.{Event}
@@ -11,15 +12,15 @@ use Rattle.run_text.specs.ScheduleText.{AreListed, BeginsBadly, events_text, mos
 use Rattle.run_text.specs.Sized.{IsSized}
 use Rattle.run_text.specs.TraceText.{lines_text, names_in, run_lines}
 use Rattle.tapc_core.specs.Outside.{Rose}
-use Rattle.tapc_core.specs.Run.{FileGives, Files, IsRunOf}
+use Rattle.tapc_core.specs.Run.{FileGives, IsRunFrom, Task}
 use Rattle.tapc_core.specs.declared.lines.Stop.{Stop}
 use Rattle.tapc_core.specs.declared.lines.Stop.TheVariants as stop
-use Rattle.world_run.specs.Opening.{opening}
 
--- The file of the system gives what the system says, and the schedule is this text, where it is told.
-pub record AreOf (system : System) (schedule : List ℕ) (files : Files) : Type 0 where
-  pub gives : FileGives files.text (semantics_of system)
-  pub schedule_is : IfSome files.schedule (λ text. schedule ≡ text)
+-- The file of the system gives what the system says, and with the settings these inputs; and the schedule is this text,
+-- where it is told.
+pub record AreOf (system : System) (inputs : Inputs) (schedule : List ℕ) (task : Task) : Type 0 where
+  pub gives : FileGives task.text task.settings (semantics_of system) inputs
+  pub schedule_is : IfSome task.schedule (λ text. schedule ≡ text)
 
 -- The lines of the events were read, and the rest of the schedule is left. The line feed of the last line may be
 -- wanting.
@@ -27,42 +28,42 @@ abbrev pub Passed : List (List ℕ) → List ℕ → List Event → List ℕ →
 Passed names schedule events rest =
     (schedule ≡ events_text names events ++ rest) ⊎ ((rest ≡ []) × (schedule ++ 10 ∷ [] ≡ events_text names events))
 
--- The first events of a schedule were served, up to a state, and the line of a number comes next. What was put since a
--- moment, and then the page, are the lines of their labels.
-pub record Progress (semantics : Semantics) (schedule rest : List ℕ) (number : ℕ) (s : State) (before now : Option (List ℕ)) (page : List ℕ) : Type 0 where
+-- The first events of a schedule were served, from a state to another, and the line of a number comes next. What was put
+-- since a moment, and then the page, are the lines of their labels.
+pub record Progress (semantics : Semantics) (start : State) (schedule rest : List ℕ) (number : ℕ) (s : State) (before now : Option (List ℕ)) (page : List ℕ) : Type 0 where
   pub events : List Event
   pub listed : AreListed (length (names_in semantics)) events
   pub passed : Passed (names_in semantics) schedule events rest
   pub count : number ≡ length events + 1
   pub labels : List Label
-  pub run : IsRunOf semantics events labels s
+  pub run : IsRunFrom semantics start events labels s
   pub sized : Each (IsSized (length semantics.processes)) labels
   pub put : List ℕ
   pub told : Appends before now put
   pub lines : List (List ℕ)
-  pub shown : run_lines semantics (opening semantics) labels ≡ Some lines
+  pub shown : run_lines semantics start labels ≡ Some lines
   pub is : lines_text lines ≡ put ++ page
 
 -- A put failed: what was put is a front of the lines of the labels of some first events.
-pub record Broken (semantics : Semantics) (schedule : List ℕ) (before now : Option (List ℕ)) : Type 0 where
+pub record Broken (semantics : Semantics) (start : State) (schedule : List ℕ) (before now : Option (List ℕ)) : Type 0 where
   pub rest : List ℕ
   pub number : ℕ
   pub last : State
   pub middle : Option (List ℕ)
   pub page : List ℕ
-  pub progress : Progress semantics schedule rest number last before middle page
+  pub progress : Progress semantics start schedule rest number last before middle page
   pub front : List ℕ
   pub behind : List ℕ
   pub cut : front ++ behind ≡ page
   pub told : Appends middle now front
 
 -- what playing a schedule leaves: it is served to its end, or a line is none, or memory was refused, or a put failed
-abbrev pub Plays : Semantics → List ℕ → Option (List ℕ) → Result Unit Stop → State → Option (List ℕ) → List ℕ → Type 0
-Plays semantics schedule before (Ok x) s now page = (number : ℕ) × Progress semantics schedule [] number s before now page
-Plays semantics schedule before (Err (stop.BadLine number)) s now page =
-    (rest : List ℕ) × (rest ≡ [] → ⊥) × ((most_events < number) ⊎ BeginsBadly (names_in semantics) rest) × Progress semantics schedule rest number s before now page
-Plays semantics schedule before (Err stop.NoMemory) s now page = (rest : List ℕ) × (number : ℕ) × (t : State) × Progress semantics schedule rest number t before now page
-Plays semantics schedule before (Err stop.Failed) s now page = Broken semantics schedule before now
+abbrev pub Plays : Semantics → State → List ℕ → Option (List ℕ) → Result Unit Stop → State → Option (List ℕ) → List ℕ → Type 0
+Plays semantics start schedule before (Ok x) s now page = (number : ℕ) × Progress semantics start schedule [] number s before now page
+Plays semantics start schedule before (Err (stop.BadLine number)) s now page =
+    (rest : List ℕ) × (rest ≡ [] → ⊥) × ((most_events < number) ⊎ BeginsBadly (names_in semantics) rest) × Progress semantics start schedule rest number s before now page
+Plays semantics start schedule before (Err stop.NoMemory) s now page = (rest : List ℕ) × (number : ℕ) × (t : State) × Progress semantics start schedule rest number t before now page
+Plays semantics start schedule before (Err stop.Failed) s now page = Broken semantics start schedule before now
 
 -- what moving a page to a sink leaves: the front that was put, and then the page, are the page as it was
 abbrev pub Moves : {E : Type 0} → List ℕ → Option (List ℕ) → Result Unit E → List ℕ → Option (List ℕ) → Type 0

@@ -9,11 +9,11 @@ use Rattle.tap_front.specs.declared.offence.Offence.{Offence}
 use Rattle.tap_front.specs.declared.offence.Offence.TheVariants.{Coded}
 use Rattle.tapc_core.specs.declared.reading.Reading.{Reading}
 use Rattle.tapc_core.specs.declared.reading.Reading.TheVariants.{TooLong}
-use Rattle.tap_front.proofs.Runs.{accepted_runs}
 use Rattle.tap_base.specs.declared.system.Process.{Process}
 use Rattle.tap_base.specs.declared.wire.WireField.{WireField}
 use Rattle.abstract_run.specs.Semantics.{messages_of, process_semantics}
 use Rattle.run_text.specs.Names.{AreNames}
+use Rattle.tap_front.proofs.Runs.{accepted_runs}
 use Rattle.tapc_core.proofs.TreesRead.{read_all}
 use Rattle.tapc_core.proofs.files.read_system.Goals as goal
 
@@ -48,12 +48,12 @@ returns-in_ok-accept-in-Whole-clause-accepted g c =
     let P : List ℕ → Type 0 = λ text. Accepted text c.in_ok-accept-in-Whole.field-0 in
     read_all P _ _ c.in_ok-text.field-0 c.in-Whole.text c.in-Whole.is c.in_ok-text.ensures.text (subst P c.as_slice.ensures c.in_ok-accept-in-Whole.ensures.reads)
 
-pub returns-in_ok-accept-in-Whole-clause-gives : goal.returns-in_ok-accept-in-Whole-clause-gives
-returns-in_ok-accept-in-Whole-clause-gives g c =
+pub returns-in_ok-accept-in-Whole-clause-holds : goal.returns-in_ok-accept-in-Whole-clause-holds
+returns-in_ok-accept-in-Whole-clause-holds g c =
     let system = c.in_ok-accept-in-Whole.field-0 in
     let P : List ℕ → Type 0 = λ text. Accepted text system in
     record {
       text = c.in-Whole.text;
       text_is = read_all (λ t. t ≡ c.in-Whole.text) _ _ c.in_ok-text.field-0 c.in-Whole.text c.in-Whole.is c.in_ok-text.ensures.text refl;
-      gives = record { system = system; accepted = subst P c.as_slice.ensures c.in_ok-accept-in-Whole.ensures.reads; says = refl };
+      accepted = subst P c.as_slice.ensures c.in_ok-accept-in-Whole.ensures.reads;
     }

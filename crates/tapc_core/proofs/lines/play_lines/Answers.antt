@@ -2,7 +2,6 @@ use Rattle.std.proofs.Common.{◌≡◌, ◌+◌, ◌<◌, ◌≤◌, ◌^◌, �
 use Rattle.std.specs.Result.{IsErrAnd}
 use Rattle.std.proofs.lemmas.List.{length-map}
 use Rattle.tap_base.specs.declared.system.System.{System}
-use Rattle.abstract_run.specs.Runnable.{IsRunnable}
 use Rattle.abstract_run.specs.Semantics.{messages_of, process_semantics, semantics_of}
 use Rattle.abstract_run.specs.declared.label.Event.{Event}
 use Rattle.abstract_run.specs.declared.state.State.{State}
@@ -13,6 +12,7 @@ use Rattle.tapc_core.specs.declared.lines.Stop.TheVariants as stop
 use Rattle.tapc_core.specs.inner.Playing.{Broken, Plays, Progress}
 use Rattle.tapc_core.proofs.Steps.{first_line_taken, progress_more, progress_moved, progress_start}
 use Rattle.tapc_core.proofs.lines.play_lines.Goals as goal
+use Rattle.abstract_run.specs.Runnable.{IsRunnable}
 use Rattle.world_run.specs.Names.{AreNamesOf}
 use Rattle.world_run.specs.Served.{IsSteady, Served}
 
@@ -27,9 +27,9 @@ listed_here : (system : System) (names : List (List ℕ)) (line : List ℕ) (e :
 listed_here system names line e same h = subst (λ n. IsListed n e) (ap length same ∙ names_counted system) h.0
 
 -- a line was served by the system of the run
-served_line : {system own : System} {schedule rest line tail : List ℕ} {number : ℕ} {s t : State} {before now : Option (List ℕ)} {page after : List ℕ} {e : Event} {names : List (List ℕ)}
-    → own ≡ system → names ≡ names_in (semantics_of system) → number ≤ most_events → Progress (semantics_of system) schedule rest number s before now page → (rest ≡ [] → ⊥) → IsFirstLine rest line tail
-    → SpellsEvent names line e → Served (semantics_of own) e s t page after → Progress (semantics_of system) schedule tail (number + 1) t before now after
+served_line : {system own : System} {start : State} {schedule rest line tail : List ℕ} {number : ℕ} {s t : State} {before now : Option (List ℕ)} {page after : List ℕ} {e : Event} {names : List (List ℕ)}
+    → own ≡ system → names ≡ names_in (semantics_of system) → number ≤ most_events → Progress (semantics_of system) start schedule rest number s before now page → (rest ≡ [] → ⊥) → IsFirstLine rest line tail
+    → SpellsEvent names line e → Served (semantics_of own) e s t page after → Progress (semantics_of system) start schedule tail (number + 1) t before now after
 served_line {line = line} {s = s} {t = t} {page = page} {after = after} {e = e} same is few p some first spells served =
     progress_more few p some first (subst (λ n. SpellsEvent n line e) is spells) (subst (λ x. Served (semantics_of x) e s t page after) same served)
 
@@ -38,7 +38,7 @@ loop-rest-smaller g c = first_line_taken c.loop-rest.rest.now _ c.first_line.res
 
 pub loop-rest-init : goal.loop-rest-init
 loop-rest-init g c = record {
-  progress = rw (c.requires.opening, c.requires.empty) (progress_start _ _ _);
+  progress = rw c.requires.empty (progress_start _ _ _ _);
   same = refl;
   steady = c.requires.steady;
   kept = refl;
@@ -95,7 +95,7 @@ returns-in_err-put_full_page-clause-plays g c =
     let inv = c.loop-rest.invariant in
     let m = semantics_of c.args.world.now.system in
     let progress = served_line inv.same c.requires.names.processes c.in-Some.ensures.within inv.progress some c.first_line.ensures.first c.in-Some.ensures.event c.in_ok-serve.ensures.served in
-    let broken : Broken m c.args.schedule.now (g.O.Sink.written c.args.out.now) (g.O.Sink.written c.put_full_page.new.out) =
+    let broken : Broken m c.args.world.now.state c.args.schedule.now (g.O.Sink.written c.args.out.now) (g.O.Sink.written c.put_full_page.new.out) =
     record {
       rest = _;
       number = _;
@@ -108,5 +108,5 @@ returns-in_err-put_full_page-clause-plays g c =
       cut = moves.2;
       told = moves.3;
     } in
-    subst (λ r. Plays m c.args.schedule.now (g.O.Sink.written c.args.out.now) r c.serve.new.self.state (g.O.Sink.written c.put_full_page.new.out) c.put_full_page.new.page.items)
+    subst (λ r. Plays m c.args.world.now.state c.args.schedule.now (g.O.Sink.written c.args.out.now) r c.serve.new.self.state (g.O.Sink.written c.put_full_page.new.out) c.put_full_page.new.page.items)
     (sym (err_is c.from_residual-in_err-put_full_page.result stop.Failed c.from_residual-in_err-put_full_page.ensures.1)) broken

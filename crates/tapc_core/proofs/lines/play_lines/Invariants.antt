@@ -8,7 +8,7 @@ use Rattle.tapc_core.proofs.lines.play_lines.Given as goal
 
 abbrev pub invariant-loop-rest : goal.invariant-loop-rest
 invariant-loop-rest g l = record {
-  progress : Progress (semantics_of l.fn.world.system) l.schedule l.rest l.number l.world.state (g.O.Sink.written l.fn.out) (g.O.Sink.written l.out) l.page.items;
+  progress : Progress (semantics_of l.fn.world.system) l.fn.world.state l.schedule l.rest l.number l.world.state (g.O.Sink.written l.fn.out) (g.O.Sink.written l.out) l.page.items;
   same : l.world.system ≡ l.fn.world.system;
   steady : IsSteady (semantics_of l.fn.world.system) l.world.state;
   kept : g.O.Sink.faults l.out ≡ g.O.Sink.faults l.fn.out;

@@ -1,27 +1,19 @@
-use Rattle.std.proofs.Common.{◌≡◌, Err, List, [], ap, refl, rules, ℕ}
-use Rattle.tap_base.specs.declared.system.System.{System}
-use Rattle.tapc_core.specs.commands.World.{OfWorld, files_named, world_command}
-use Rattle.tapc_core.specs.declared.status.Status.{Status}
-use Rattle.tapc_core.specs.declared.status.Status.TheVariants.{ReadFault, WriteFault, NoMemory}
-use Rattle.tapc_core.proofs.Found.{AreSpared, given_up_found, played_found, refused_read}
-use Rattle.tapc_core.proofs.Outputs.{gives_up, refused_memory}
+use Rattle.std.proofs.Common.{Err, ap, refl, rules, inl, inr, ◌∙◌}
+use Rattle.tapc_core.specs.commands.World.{OfWorld, task_of}
+use Rattle.tapc_core.specs.SettingWords.{settings_among}
+use Rattle.tapc_core.specs.declared.start.StartFault.TheVariants.{File}
+use Rattle.tapc_core.proofs.Outputs.{closes_or, gives_up, refused_memory}
 use Rattle.tapc_core.proofs.program.world.Goals as goal
-
-spared : {reads : Status → List (List ℕ)} → reads WriteFault ≡ [] → reads ReadFault ≡ [] → reads NoMemory ≡ [] → AreSpared reads
-spared a b c = record { unwritten = a; unread = b; no_memory = c }
 
 pub returns-in-Ok-clause-writes : goal.returns-in-Ok-clause-writes
 returns-in-Ok-clause-writes g c = c.play.ensures.writes _ (search rules)
 
-pub returns-in-Err-clause-writes : goal.returns-in-Err-clause-writes
-returns-in-Err-clause-writes g c =
-    let files = files_named c.args.system.now c.args.schedule.now (g.S.Store.contents c.args.store.now) in
-    gives_up (OfWorld files) c.in-Err.fault c.give_up.result _ _ (λ o e. record { offence = o; first = c.in-Err.ensures.refused o (ap Err e); is = refl }) refl (refused_memory files) c.give_up.ensures.closes
+pub returns-in-Err-Misset-clause-writes : goal.returns-in-Err-Misset-clause-writes
+returns-in-Err-Misset-clause-writes g c =
+    let task = task_of c.args.system.now c.args.schedule.now (settings_among c.args.settings.now) (g.S.Store.contents c.args.store.now) in
+    closes_or (OfWorld task) (inr (record { refusal = c.in-Err-Misset.refusal; offence = c.in-Err-Misset.ensures.misset c.in-Err-Misset.refusal (ap Err c.in-Err-Misset.field-0-is); is = refl })) (refused_memory task) c.close_misset.ensures.closes
 
-pub returns-in-Ok-clause-found : goal.returns-in-Ok-clause-found
-returns-in-Ok-clause-found g c = λ t.
-    played_found c.args.system.now c.args.schedule.now (g.S.Store.contents c.args.store.now) c.play.result (c.in-Ok.ensures.found tt t) (c.in-Ok.ensures.found_schedule t) c.play.ensures.answer
-
-pub returns-in-Err-clause-found : goal.returns-in-Err-clause-found
-returns-in-Err-clause-found g c = λ t.
-    given_up_found (world_command c.args.system.now c.args.schedule.now).reads (g.S.Store.contents c.args.store.now) c.in-Err.fault _ _ c.give_up.result (spared refl refl refl) (λ o e. (c.in-Err.ensures.found (refused_read (System × List ℕ) c.in-Err.fault o e) t, tt)) c.give_up.ensures.closes
+pub returns-in-Err-File-clause-writes : goal.returns-in-Err-File-clause-writes
+returns-in-Err-File-clause-writes g c =
+    let task = task_of c.args.system.now c.args.schedule.now (settings_among c.args.settings.now) (g.S.Store.contents c.args.store.now) in
+    gives_up (OfWorld task) c.in-Err-File.fault c.give_up.result _ _ (λ o e. inl (record { offence = o; first = c.in-Err-File.ensures.refused o (ap Err (c.in-Err-File.field-0-is ∙ ap File e)); is = refl })) refl (refused_memory task) c.give_up.ensures.closes

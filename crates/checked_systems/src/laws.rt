@@ -1,0 +1,9 @@
+//! What holds of every checked system.
+
+ghost use Rattle.checked_systems.specs.CheckedIsSound.{CheckedIsSound};
+
+/// A checked system is judged right: it begins within its ranges and its bodies keep them, and where
+/// no remainder is by -1 64-bit numbers compute it.
+pub fn checked_is_sound()
+    ensures { CheckedIsSound }
+{}

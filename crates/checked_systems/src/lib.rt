@@ -1,0 +1,6 @@
+//! What holds of every checked system.
+#![tactic(auto)]
+
+mod laws;
+
+pub use laws::checked_is_sound;

@@ -1,0 +1,9 @@
+pub mod Bodies
+pub mod Composed
+pub mod Deeds
+pub mod DeedsOpen
+pub mod GoOn
+pub mod Going
+pub mod Runs
+pub mod Simple
+pub mod SoundSystem

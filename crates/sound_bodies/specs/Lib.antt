@@ -1,0 +1,4 @@
+pub mod Bodies
+pub mod GoOn
+pub mod Judged
+pub mod Sends

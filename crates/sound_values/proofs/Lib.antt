@@ -1,0 +1,7 @@
+pub mod Corners
+pub mod ExprInduction
+pub mod ExprOpen
+pub mod FieldValues
+pub mod Operations
+pub mod Remainders
+pub mod Values

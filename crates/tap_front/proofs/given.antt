@@ -1,0 +1,5 @@
+mod FitDeclarations
+mod FitExprs
+mod FitStmts
+mod FitTokens
+pub mod GivenTrees

@@ -1,0 +1,13 @@
+pub mod Declarations
+pub mod Kinds
+pub mod Limits
+pub mod MessageOffences
+pub mod Messages
+pub mod NameOffences
+pub mod Names
+pub mod Processes
+pub mod Refusals
+pub mod Tables
+pub mod VariableOffences
+pub mod WorkedDeclarations
+pub mod inner

@@ -1,0 +1,9 @@
+pub mod GivenInputs
+pub mod Laws
+pub mod Lines
+pub mod Offences
+pub mod Refusals
+pub mod SettingText
+pub mod Spots
+pub mod Values
+pub mod inner

@@ -1,5 +1,0 @@
-pub mod Few
-pub mod SmallGrammar
-pub mod SmallNames
-pub mod SmallText
-pub mod inner

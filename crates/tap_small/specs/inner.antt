@@ -1,5 +1,0 @@
-pub mod Ends
-pub mod Named
-pub mod Reading
-pub mod Scopes
-pub mod Trees

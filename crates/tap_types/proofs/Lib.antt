@@ -1,0 +1,13 @@
+pub mod FieldTables
+pub mod KeptNames
+pub mod NamedExprs
+pub mod NamedProcesses
+pub mod NamedStmts
+pub mod NamedTrees
+pub mod Numbers
+pub mod Positions
+pub mod Received
+pub mod StmtFolds
+pub mod Wholes
+pub mod WorkedUses
+pub mod whole

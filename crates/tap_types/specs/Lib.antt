@@ -1,0 +1,14 @@
+pub mod ActionOffences
+pub mod ExprOffences
+pub mod Given
+pub mod Laws
+pub mod Offences
+pub mod Pieces
+pub mod Scopes
+pub mod SendOffences
+pub mod StmtOffences
+pub mod Systems
+pub mod TruthRanges
+pub mod Wholeness
+pub mod WorkedUses
+pub mod inner

@@ -1,0 +1,6 @@
+pub mod Cheap
+pub mod Ends
+pub mod FieldFacts
+pub mod Firsts
+pub mod Passing
+pub mod WidthFacts

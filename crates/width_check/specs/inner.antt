@@ -1,0 +1,5 @@
+pub mod Answering
+pub mod Capped
+pub mod Judging
+pub mod Reading
+pub mod Remainders
