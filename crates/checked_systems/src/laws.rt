@@ -2,8 +2,8 @@
 
 ghost use Rattle.checked_systems.specs.CheckedIsSound.{CheckedIsSound};
 
-/// A checked system is judged right: it begins within its ranges and its bodies keep them, and where
-/// no remainder is by -1 64-bit numbers compute it.
+/// A checked system is judged right: it begins within its ranges, its bodies keep them, and 64-bit
+/// numbers compute it.
 pub fn checked_is_sound()
     ensures { CheckedIsSound }
 {}

@@ -11,11 +11,11 @@ use Rattle.tap_base.specs.declared.system.System.{System}
 use Rattle.tap_base.specs.declared.system.Var.{Var}
 use Rattle.tap_base.specs.Interval.{IsIn}
 use Rattle.tap_base.specs.Lists.{Each, EachBoth, EachFrom}
-use Rattle.tap_base.specs.Parts.{Deed, all_deeds}
+use Rattle.tap_base.specs.Parts.{all_deeds}
 use Rattle.tap_base.specs.Ranges.{AreAllIn, ranges_of}
 use Rattle.tap_base.specs.Resolved.{IsResolved, IsResolvedAction, IsResolvedGuard, IsResolvedProcess, IsOrdered, IsVar}
 use Rattle.tap_base.specs.Scope.{input_ranges, scope_of}
-use Rattle.tap_base.proofs.ListFacts.{each_append, each_at, each_replicate, each_map, each_of, each_weaker, numbered_at}
+use Rattle.tap_base.proofs.ListFacts.{each_append, each_at, each_replicate, each_map, each_weaker, numbered_at}
 use Rattle.tap_base.proofs.OptionFacts.{mapped}
 use Rattle.tap_exec.proofs.Fronts.{all_front}
 use Rattle.tap_exec.specs.declared.running.Running.{Running}
@@ -25,12 +25,11 @@ use Rattle.abstract_run.specs.inner.ComputedSemantics.{computed_action, computed
 use Rattle.abstract_run.specs.Messages.{AreReceived}
 use Rattle.abstract_run.specs.Safe.{Agrees, BeginsInRange, BodiesKeepRanges, IsBeginning, KeepsRange, SameAction, SameGuard, SameProcess, most_vars, tests, receives, timeouts}
 use Rattle.abstract_run.specs.Semantics.{ActionSemantics, InputSemantics, ProcessSemantics, action_semantics, guard_semantics, input_semantics, messages_of, process_semantics, semantics_of}
-use Rattle.sound_values.specs.Indexes.{RemaindersMissMinusOne}
 use Rattle.sound_values.proofs.FieldValues.{received_fit}
 use Rattle.sound_values.proofs.Values.{sound}
 use Rattle.sound_bodies.specs.Bodies.{BodiesAreSound}
 use Rattle.sound_bodies.specs.GoOn.{BodiesGoOn, GoesOn}
-use Rattle.sound_bodies.specs.Judged.{ActionMissesMinusOne, GuardMissesMinusOne, IsJudgedAction, IsJudgedGuard, IsJudgedSystem, SystemMissesMinusOne, exprs_of}
+use Rattle.sound_bodies.specs.Judged.{IsJudgedAction, IsJudgedGuard, IsJudgedSystem}
 use Rattle.sound_bodies.specs.Sends.{body_sends}
 use Rattle.sound_bodies.proofs.Bodies.{DeedRuns, body_runs}
 use Rattle.sound_bodies.proofs.Deeds.{all_run}
@@ -112,8 +111,7 @@ module _ (system : System) (ok : IsResolved system) (right : IsJudgedSystem syst
 
     deeds : Each (DeedRuns (semantics_of system) p (process_semantics (messages_of system) process) exact inputs received) (all_deeds action.body)
     deeds =
-        all_run system p process action.guard exact inputs received given listens (λ e. Unit {0}) (λ e range h j x cells fit. refl) (all_deeds action.body) resolved.body judged.body
-        (each_of (λ (d : Deed). Each (λ e. Unit {0}) (exprs_of d)) (all_deeds action.body) (λ d. each_of (λ e. Unit {0}) (exprs_of d) (λ e. tt)))
+        all_run system p process action.guard exact inputs received given listens (λ e range h j cells fit. refl) (all_deeds action.body) resolved.body judged.body
 
     exactly_runs : Runs (semantics_of system) p (process_semantics (messages_of system) process) (body_sends action.body) (exec_all exact (messages_of system) inputs received action.body) (exec_all exact (messages_of system) inputs received action.body) r
     exactly_runs = body_runs (semantics_of system) p (process_semantics (messages_of system) process) exact inputs received action.body deeds r begin.running
@@ -123,13 +121,12 @@ module _ (system : System) (ok : IsResolved system) (right : IsJudgedSystem syst
         let vars = (numbered_at (IsResolvedProcess system) system.processes p process ok.processes there).vars in
         body_goes_on (semantics_of system) p (process_semantics (messages_of system) process) inputs received (ranges_ordered process.vars vars) action.body deeds r begin.running
 
-    computed_runs : ActionMissesMinusOne system.messages process action
-        → Runs (semantics_of system) p (process_semantics (messages_of system) process) (body_sends action.body) (exec_all computed (messages_of system) inputs received action.body) (exec_all exact (messages_of system) inputs received action.body) r
-    computed_runs misses =
+    computed_runs : Runs (semantics_of system) p (process_semantics (messages_of system) process) (body_sends action.body) (exec_all computed (messages_of system) inputs received action.body) (exec_all exact (messages_of system) inputs received action.body) r
+    computed_runs =
         let s = scope_of system.messages process action.guard in
-        let own = all_run system p process action.guard computed inputs received given listens (RemaindersMissMinusOne s)
-        (λ e range h j x cells fit. (sound s cells inputs received (record { of_cells = fit; of_inputs = given; of_received = listens }) e range h j).computes x)
-        (all_deeds action.body) resolved.body judged.body misses.body in
+        let own = all_run system p process action.guard computed inputs received given listens
+        (λ e range h j cells fit. (sound s cells inputs received (record { of_cells = fit; of_inputs = given; of_received = listens }) e range h j).computes)
+        (all_deeds action.body) resolved.body judged.body in
         body_runs (semantics_of system) p (process_semantics (messages_of system) process) computed inputs received action.body own r begin.running
 
     kept : (ends : Running) → (action_semantics (messages_of system) action).body inputs received r ≡ Some ends
@@ -163,31 +160,30 @@ both_mapped : {A B C : Type 0} (R : B → C → Type 0) (f : A → B) (g : A →
 both_mapped R f g [] h = tt
 both_mapped R f g (x ∷ xs) h = (h 0 x refl, both_mapped R f g xs (λ k. h (suc k)))
 
-guard_same : (system : System) (p : ℕ) (process : Process) (g : Guard) → IsResolvedGuard system p process g → IsJudgedGuard (scope_of system.messages process g) g → GuardMissesMinusOne (scope_of system.messages process g) g
+guard_same : (system : System) (p : ℕ) (process : Process) (g : Guard) → IsResolvedGuard system p process g → IsJudgedGuard (scope_of system.messages process g) g
     → SameGuard (process_semantics (messages_of system) process) (computed_guard g) (guard_semantics g)
-guard_same system p process (guard.Local e) h j misses = tests (λ cells inputs within given.
+guard_same system p process (guard.Local e) h j = tests (λ cells inputs within given.
     let s = scope_of system.messages process (guard.Local e) in
     let read = subst (λ ranges. AreAllIn ranges inputs) (given_ranges process.inputs) given in
-    let valued = (sound s cells inputs [] (record { of_cells = within; of_inputs = read; of_received = record { counted = refl; within = tt } }) e j.0 h j.1).computes misses in
+    let valued = (sound s cells inputs [] (record { of_cells = within; of_inputs = read; of_received = record { counted = refl; within = tt } }) e j.0 h j.1).computes in
     rw valued refl)
-guard_same system p process (guard.Receive m q) h j misses = receives
-guard_same system p process (guard.Timeout t) h j misses = timeouts
+guard_same system p process (guard.Receive m q) h j = receives
+guard_same system p process (guard.Timeout t) h j = timeouts
 
-same_action : (system : System) (ok : IsResolved system) (right : IsJudgedSystem system) (misses : SystemMissesMinusOne system) (p a : ℕ) (process : Process) (action : Action)
+same_action : (system : System) (ok : IsResolved system) (right : IsJudgedSystem system) (p a : ℕ) (process : Process) (action : Action)
     → slice_get system.processes p ≡ Some process → slice_get process.actions a ≡ Some action
     → SameAction (semantics_of system) (process_semantics (messages_of system) process) (computed_action (messages_of system) action) (action_semantics (messages_of system) action)
-same_action system ok right misses p a process action there is =
+same_action system ok right p a process action there is =
     let r = resolved system ok right p a process action there is in
     let j = judged system ok right p a process action there is in
-    let m = each_at (ActionMissesMinusOne system.messages process) process.actions a action (each_at (λ (p : Process). Each (ActionMissesMinusOne system.messages p) p.actions) system.processes p process misses there) is in
     record {
-      guard = guard_same system p process action.guard r.guard j.guard m.guard;
-      body = λ inputs received before begin. (computed_runs system ok right p a process action there is inputs received before begin m).same;
+      guard = guard_same system p process action.guard r.guard j.guard;
+      body = λ inputs received before begin. (computed_runs system ok right p a process action there is inputs received before begin).same;
     }
 
-same_process : (system : System) (ok : IsResolved system) (right : IsJudgedSystem system) (misses : SystemMissesMinusOne system) (p : ℕ) (process : Process) → slice_get system.processes p ≡ Some process
+same_process : (system : System) (ok : IsResolved system) (right : IsJudgedSystem system) (p : ℕ) (process : Process) → slice_get system.processes p ≡ Some process
     → SameProcess (semantics_of system) (computed_process (messages_of system) process) (process_semantics (messages_of system) process)
-same_process system ok right misses p process there =
+same_process system ok right p process there =
     let machine = computed_action (messages_of system) in
     let value = action_semantics (messages_of system) in
     record {
@@ -196,17 +192,17 @@ same_process system ok right misses p process there =
       vars = refl;
       timers = refl;
       counted = length-map process.actions machine ∙ sym (length-map process.actions value);
-      actions = both_mapped _ machine value process.actions (λ a action is. same_action system ok right misses p a process action there is);
+      actions = both_mapped _ machine value process.actions (λ a action is. same_action system ok right p a process action there is);
     }
 
-computes : (system : System) → IsResolved system → IsJudgedSystem system → SystemMissesMinusOne system → Agrees (computed_semantics system) (semantics_of system)
-computes system ok right misses =
+computes : (system : System) → IsResolved system → IsJudgedSystem system → Agrees (computed_semantics system) (semantics_of system)
+computes system ok right =
     let machine = computed_process (messages_of system) in
     let value = process_semantics (messages_of system) in
     record {
       messages = refl;
       counted = length-map system.processes machine ∙ sym (length-map system.processes value);
-      processes = both_mapped _ machine value system.processes (λ p process there. same_process system ok right misses p process there);
+      processes = both_mapped _ machine value system.processes (λ p process there. same_process system ok right p process there);
     }
 
 pub bodies_sound : BodiesAreSound

@@ -1,5 +1,5 @@
 -- Where the statements of a system are judged right: every value is within the range of what it is written to.
-use Rattle.std.specs.Prelude.{◌-ℤ◌, ◌^◌, ◌≤◌, pos, IfSome, List, [], ◌∷◌, ◌++◌, flat_map, Option, None, Some, slice_get}
+use Rattle.std.specs.Prelude.{◌-ℤ◌, ◌^◌, ◌≤◌, pos, IfSome, List, slice_get}
 use Rattle.tap_base.specs.declared.place.Range.{Range}
 use Rattle.tap_base.specs.declared.system.Action.{Action}
 use Rattle.tap_base.specs.declared.system.Guard.{Guard}
@@ -13,7 +13,7 @@ use Rattle.tap_base.specs.Interval.{IsWithin, from_to}
 use Rattle.tap_base.specs.Lists.{Each, EachBoth}
 use Rattle.tap_base.specs.Parts.{Deed, all_deeds, assign, choose, send, start, stop, test, turns}
 use Rattle.tap_base.specs.Scope.{Scope, fields_of, free_fields, scope_of, value_range}
-use Rattle.sound_values.specs.Indexes.{RemaindersMissMinusOne, index_range}
+use Rattle.sound_values.specs.Indexes.{index_range}
 use Rattle.sound_values.specs.Sound.{IsJudged}
 use Rattle.sound_bodies.specs.Sends.{body_sends}
 
@@ -42,24 +42,6 @@ IsJudgedDeed messages s (stop t) = Unit {0}
 IsJudgedDeed messages s (test e) = (range : Range) × IsJudged s e range
 IsJudgedDeed messages s (turns n) = Unit {0}
 
--- ---- the expressions of a statement
-
-abbrev pub of_index : Option Expr → List Expr
-of_index None = []
-of_index (Some e) = e ∷ []
-
-abbrev pub indexes_of : List Target → List Expr
-indexes_of targets = flat_map (λ (t : Target). of_index t.index) targets
-
-abbrev pub exprs_of : Deed → List Expr
-exprs_of (assign targets values) = indexes_of targets ++ values
-exprs_of (choose target) = of_index target.index
-exprs_of (send m values q) = values
-exprs_of (start t delay) = delay ∷ []
-exprs_of (stop t) = []
-exprs_of (test e) = e ∷ []
-exprs_of (turns n) = []
-
 -- ---- systems
 
 abbrev pub IsJudgedGuard : Scope → Guard → Type 0
@@ -73,17 +55,3 @@ pub record IsJudgedAction (messages : List Message) (process : Process) (a : Act
 
 abbrev pub IsJudgedSystem : System → Type 0
 IsJudgedSystem system = Each (λ (p : Process). Each (IsJudgedAction system.messages p) p.actions) system.processes
-
--- ---- the gap
-
-abbrev pub GuardMissesMinusOne : Scope → Guard → Type 0
-GuardMissesMinusOne s (guard.Local e) = RemaindersMissMinusOne s e
-GuardMissesMinusOne s _ = Unit {0}
-
-pub record ActionMissesMinusOne (messages : List Message) (process : Process) (a : Action) : Type 0 where
-  pub guard : GuardMissesMinusOne (scope_of messages process a.guard) a.guard
-  pub body : Each (λ (d : Deed). Each (RemaindersMissMinusOne (scope_of messages process a.guard)) (exprs_of d)) (all_deeds a.body)
-
--- no remainder of the system is by -1
-abbrev pub SystemMissesMinusOne : System → Type 0
-SystemMissesMinusOne system = Each (λ (p : Process). Each (ActionMissesMinusOne system.messages p) p.actions) system.processes

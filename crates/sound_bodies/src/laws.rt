@@ -4,8 +4,7 @@ ghost use Rattle.sound_bodies.specs.Bodies.{BodiesAreSound};
 ghost use Rattle.sound_bodies.specs.GoOn.{BodiesGoOn};
 
 /// Of a resolved system whose values are judged right and whose actions make at most 64 sends: it
-/// begins within its ranges, its bodies keep them, and where no remainder is by -1 64-bit numbers
-/// compute it.
+/// begins within its ranges, its bodies keep them, and 64-bit numbers compute it.
 pub fn bodies_are_sound()
     ensures { BodiesAreSound }
 {}

@@ -1,6 +1,6 @@
 -- The result of an operation on numbers within ranges is within the operation's range, and 64 bits compute it.
 use Rattle.std.proofs.Common.{◌≡◌, ◌⊎◌, inl, inr, Bool, true, false, not, ◌&&◌, ◌||◌, if◌then◌else◌, refl, sym, ap, subst, ◌∙◌, Option, Some, None, arith}
-use Rattle.std.specs.Prelude.{ℤ, pos, negsuc, ◌+ℤ◌, ◌-ℤ◌, ◌*ℤ◌, ◌≤ℤ◌, ◌<ℤ◌, neg_ℤ, int_le, int_lt}
+use Rattle.std.specs.Prelude.{ℤ, pos, ◌+ℤ◌, ◌-ℤ◌, ◌*ℤ◌, ◌≤ℤ◌, ◌<ℤ◌, neg_ℤ, int_le, int_lt}
 use Rattle.std.specs.Ordering.{int_eq}
 use Rattle.std.specs.Int.{int_min, int_max, int_div_euclid, int_rem_euclid}
 use Rattle.std.proofs.lemmas.Bool.Decides.{Decides-int_eq}
@@ -9,10 +9,8 @@ use Rattle.tap_base.specs.declared.place.Range.{Range}
 use Rattle.tap_base.specs.declared.tree.Op.{Op}
 use Rattle.tap_base.specs.declared.tree.Op.TheVariants.{Or, And, Eq, Ne, Lt, Le, Gt, Ge, Add, Sub, Mul, Div, Mod, Min, Max}
 use Rattle.tap_base.specs.Interval.{IsIn, bounded, fits, has_zero, spanned, truth_range, operation_range, remainder_range, quotient_range}
-use Rattle.tap_base.specs.Lists.{Each}
 use Rattle.tap_exec.specs.Computed.{can_apply}
 use Rattle.tap_exec.specs.Value.{operation, is_true, truth, quotient, remainder}
-use Rattle.sound_values.specs.Indexes.{MissesMinusOne, divisor_of}
 use Rattle.sound_values.proofs.Corners.{at_corners, mul_between, mul_between_right, div_between, div_between_right}
 use Rattle.sound_values.proofs.Remainders.{Lies, inside, rem_inside, remainder_inner, spanned_inside}
 
@@ -84,9 +82,6 @@ module _ (x y : ℤ) (a b c : Range) (in_a : IsIn x a) (in_b : IsIn y b) where
       let is : int_rem_euclid x y ≡ remainder x y = ap (λ t. if t then pos 0 else int_rem_euclid x y) (sym test) in
       (test, subst (λ r. IsIn r c) is (rem_inside x y a b c in_a in_b (one_side u.0) u.1))
 
-  not_minus_one : MissesMinusOne (Some b) → int_eq y (negsuc 0) ≡ false
-  not_minus_one misses = tested (negsuc 0) (λ is. misses (subst (λ z. IsIn z b) is in_b))
-
 -- ---- all operations
 
 truth_lies : (t : Bool) → Lies (truth t) truth_range
@@ -96,37 +91,37 @@ truth_lies false = record { within = (omega (arith, ints), omega (arith, ints));
 truth_does : (t : Bool) (c : Range) → Some truth_range ≡ Some c → Lies (truth t) c
 truth_does t c e = let same : truth_range ≡ c = cc in subst (Lies (truth t)) same (truth_lies t)
 
--- the result is within the range, and 64 bits compute it where it is no remainder by -1
-pub record Does (op : Op) (x y : ℤ) (b c : Range) : Type 0 where
+-- the result is within the range, and 64 bits compute it
+pub record Does (op : Op) (x y : ℤ) (c : Range) : Type 0 where
   pub within : IsIn (operation op x y) c
-  pub can : Each MissesMinusOne (divisor_of op (Some b)) → can_apply op x y ≡ true
+  pub can : can_apply op x y ≡ true
 
 quotient_can : (s t : Bool) → s ≡ false → t ≡ true → (not s && t) ≡ true
 quotient_can s t e f = rw (e, f) refl
 
-remainder_can : (s t : Bool) → s ≡ false → t ≡ false → (not s && not t) ≡ true
-remainder_can s t e f = rw (e, f) refl
+remainder_can : (s : Bool) → s ≡ false → not s ≡ true
+remainder_can s e = rw e refl
 
-pub operation_does : (op : Op) (x y : ℤ) (a b c : Range) → IsIn x a → IsIn y b → operation_range op a b ≡ Some c → Does op x y b c
-operation_does Or x y a b c h k e = let l = truth_does (is_true x || is_true y) c e in record { within = l.within; can = λ m. l.fits }
-operation_does And x y a b c h k e = let l = truth_does (is_true x && is_true y) c e in record { within = l.within; can = λ m. l.fits }
-operation_does Eq x y a b c h k e = let l = truth_does (int_eq x y) c e in record { within = l.within; can = λ m. l.fits }
-operation_does Ne x y a b c h k e = let l = truth_does (not (int_eq x y)) c e in record { within = l.within; can = λ m. l.fits }
-operation_does Lt x y a b c h k e = let l = truth_does (int_lt x y) c e in record { within = l.within; can = λ m. l.fits }
-operation_does Le x y a b c h k e = let l = truth_does (int_le x y) c e in record { within = l.within; can = λ m. l.fits }
-operation_does Gt x y a b c h k e = let l = truth_does (int_lt y x) c e in record { within = l.within; can = λ m. l.fits }
-operation_does Ge x y a b c h k e = let l = truth_does (int_le y x) c e in record { within = l.within; can = λ m. l.fits }
-operation_does Add x y a b c h k e = let l = sum_lies x y a b c h k e in record { within = l.within; can = λ m. l.fits }
-operation_does Sub x y a b c h k e = let l = difference_lies x y a b c h k e in record { within = l.within; can = λ m. l.fits }
-operation_does Mul x y a b c h k e = let l = product_lies x y a b c h k e in record { within = l.within; can = λ m. l.fits }
+pub operation_does : (op : Op) (x y : ℤ) (a b c : Range) → IsIn x a → IsIn y b → operation_range op a b ≡ Some c → Does op x y c
+operation_does Or x y a b c h k e = let l = truth_does (is_true x || is_true y) c e in record { within = l.within; can = l.fits }
+operation_does And x y a b c h k e = let l = truth_does (is_true x && is_true y) c e in record { within = l.within; can = l.fits }
+operation_does Eq x y a b c h k e = let l = truth_does (int_eq x y) c e in record { within = l.within; can = l.fits }
+operation_does Ne x y a b c h k e = let l = truth_does (not (int_eq x y)) c e in record { within = l.within; can = l.fits }
+operation_does Lt x y a b c h k e = let l = truth_does (int_lt x y) c e in record { within = l.within; can = l.fits }
+operation_does Le x y a b c h k e = let l = truth_does (int_le x y) c e in record { within = l.within; can = l.fits }
+operation_does Gt x y a b c h k e = let l = truth_does (int_lt y x) c e in record { within = l.within; can = l.fits }
+operation_does Ge x y a b c h k e = let l = truth_does (int_le y x) c e in record { within = l.within; can = l.fits }
+operation_does Add x y a b c h k e = let l = sum_lies x y a b c h k e in record { within = l.within; can = l.fits }
+operation_does Sub x y a b c h k e = let l = difference_lies x y a b c h k e in record { within = l.within; can = l.fits }
+operation_does Mul x y a b c h k e = let l = product_lies x y a b c h k e in record { within = l.within; can = l.fits }
 operation_does Div x y a b c h k e =
     let l = quotient_lies x y a b c h k e in
-    record { within = l.1.within; can = λ m. quotient_can (int_eq y (pos 0)) (fits (quotient x y)) l.0 l.1.fits }
+    record { within = l.1.within; can = quotient_can (int_eq y (pos 0)) (fits (quotient x y)) l.0 l.1.fits }
 operation_does Mod x y a b c h k e =
     let l = remainder_lies x y a b c h k e in
-    record { within = l.1; can = λ m. remainder_can (int_eq y (pos 0)) (int_eq y (negsuc 0)) l.0 (not_minus_one x y a b c h k m.0) }
-operation_does Min x y a b c h k e = let l = min_lies x y a b c h k e in record { within = l.within; can = λ m. l.fits }
-operation_does Max x y a b c h k e = let l = max_lies x y a b c h k e in record { within = l.within; can = λ m. l.fits }
+    record { within = l.1; can = remainder_can (int_eq y (pos 0)) l.0 }
+operation_does Min x y a b c h k e = let l = min_lies x y a b c h k e in record { within = l.within; can = l.fits }
+operation_does Max x y a b c h k e = let l = max_lies x y a b c h k e in record { within = l.within; can = l.fits }
 
 pub negation_does : (x : ℤ) (a c : Range) → IsIn x a → bounded (neg_ℤ a.hi) (neg_ℤ a.lo) ≡ Some c → Lies (neg_ℤ x) c
 negation_does x a c h e = inside (neg_ℤ a.hi) (neg_ℤ a.lo) (neg_ℤ x) c e (omega (arith, ints, h.1)) (omega (arith, ints, h.0))

@@ -1,5 +1,5 @@
 -- Each expression that is judged right is sound: by one induction.
-use Rattle.std.proofs.Common.{◌≡◌, ◌<◌, ◌+◌, ℕ, ℤ, pos, negsuc, unsigned_abs, true, not, ◌&&◌, ◌++◌, List, length, refl, ap, sym, subst, ◌∙◌, slice_get, Option, Some, arith}
+use Rattle.std.proofs.Common.{◌≡◌, ◌<◌, ◌+◌, ℕ, ℤ, pos, negsuc, unsigned_abs, true, not, ◌&&◌, List, length, refl, ap, sym, subst, ◌∙◌, slice_get, Option, Some, arith}
 use Rattle.std.specs.Prelude.{IfSome, ◌≤ℤ◌, ◌-ℤ◌, int_le, int_lt, neg_ℤ, option_and_then}
 use Rattle.std.specs.Int.Signed.{≤ℤ_refl}
 use Rattle.std.specs.Option.{option_map}
@@ -21,7 +21,7 @@ use Rattle.tap_base.proofs.ListFacts.{both_at, each_split, element_at}
 use Rattle.tap_base.proofs.OptionFacts.{bound, mapped}
 use Rattle.tap_exec.specs.Computed.{applied, computed, negated, element as element_computed}
 use Rattle.tap_exec.specs.Value.{at, element, is_true, operation, truth, value_of}
-use Rattle.sound_values.specs.Indexes.{IsWithinArray, MissesMinusOne, Seen, divisor_of, index_range, interval_by, seen}
+use Rattle.sound_values.specs.Indexes.{IsWithinArray, Seen, index_range, interval_by, seen}
 use Rattle.sound_values.specs.Sound.{AreRead, IsJudged, IsSound}
 use Rattle.sound_values.proofs.ExprInduction.{expr, of_expr}
 use Rattle.sound_values.proofs.ExprOpen as open_
@@ -79,9 +79,6 @@ module _ (s : Scope) where
   abbrev Indexed : Seen → Type 0
   Indexed z = Each IsWithinArray (z.indexes s)
 
-  abbrev Spared : Seen → Type 0
-  Spared z = Each MissesMinusOne (z.divisors s)
-
 -- ---- values
 
 module _ (s : Scope) (cells inputs received : List ℤ) (read : AreRead s cells inputs received) where
@@ -95,7 +92,7 @@ module _ (s : Scope) (cells inputs received : List ℤ) (read : AreRead s cells 
       let found = value_at ranges values k range all (sym i ∙ given) in
       record {
         within = subst (λ y. IsIn y range) (sym v) found.within;
-        computes = λ m. c ∙ found.valued ∙ ap Some (sym v);
+        computes = c ∙ found.valued ∙ ap Some (sym v);
       }
 
   number_holds : (n : ℤ) (p : Place) → Holds (expr (kind.Number n) p)
@@ -105,7 +102,7 @@ module _ (s : Scope) (cells inputs received : List ℤ) (read : AreRead s cells 
       let itself : IsIn n range = subst (IsIn n) (cond_some (fits n && fits n) (from_to n n) range i).1 (≤ℤ_refl n, ≤ℤ_refl n) in
       record {
         within = subst (λ y. IsIn y range) (sym v) itself;
-        computes = λ m. open_.computed_number p cells inputs received n ∙ ap Some (sym v);
+        computes = open_.computed_number p cells inputs received n ∙ ap Some (sym v);
       }
 
   cell_holds : (k : ℕ) (p : Place) → Holds (expr (kind.Cell k) p)
@@ -140,10 +137,9 @@ module _ (s : Scope) (cells inputs received : List ℤ) (read : AreRead s cells 
       let value = open_.value_element p cells inputs received first count i ∙ here.0 in
       record {
         within = subst (λ y. IsIn y range) (sym value) found.within;
-        computes = λ m.
-            let spared = subst (Spared s) (open_.seen_element p first count i) m in
+        computes =
             open_.computed_element p cells inputs received first count i
-            ∙ ap (λ o. o >>= element_computed cells first count) (sound.computes spared)
+            ∙ ap (λ o. o >>= element_computed cells first count) sound.computes
             ∙ here.1 ∙ found.valued ∙ ap Some (sym value);
       }
 
@@ -155,9 +151,9 @@ module _ (s : Scope) (cells inputs received : List ℤ) (read : AreRead s cells 
       let value = open_.value_not p cells inputs received a in
       record {
         within = subst (λ y. IsIn y range) (sym value) (not_does (not (is_true (value_of a cells inputs received))) range (ap Some part.2));
-        computes = λ m.
+        computes =
             open_.computed_not p cells inputs received a
-            ∙ ap (λ o. o >>= λ x. Some (truth (not (is_true x)))) (sound.computes (subst (Spared s) (open_.seen_not p a) m))
+            ∙ ap (λ o. o >>= λ x. Some (truth (not (is_true x)))) sound.computes
             ∙ ap Some (sym value);
       }
 
@@ -173,9 +169,9 @@ module _ (s : Scope) (cells inputs received : List ℤ) (read : AreRead s cells 
       let gives : negated x ≡ Some (neg_ℤ x) = rw fit refl in
       record {
         within = subst (λ y. IsIn y range) (sym value) lies.within;
-        computes = λ m.
+        computes =
             open_.computed_neg p cells inputs received a
-            ∙ ap (λ o. o >>= negated) (sound.computes (subst (Spared s) (open_.seen_neg p a) m))
+            ∙ ap (λ o. o >>= negated) sound.computes
             ∙ gives ∙ ap Some (sym value);
       }
 
@@ -193,12 +189,10 @@ module _ (s : Scope) (cells inputs received : List ℤ) (read : AreRead s cells 
       let value = open_.value_binary p cells inputs received op a b in
       record {
         within = subst (λ z. IsIn z range) (sym value) does.within;
-        computes = λ m.
-            let all = each_split MissesMinusOne (divisor_of op (interval_by s (seen b).interval)) ((seen a).divisors s ++ (seen b).divisors s) (subst (Spared s) (open_.seen_binary p op a b) m) in
-            let parts = each_split MissesMinusOne ((seen a).divisors s) ((seen b).divisors s) all.1 in
-            let can = does.can (subst (λ o. Each MissesMinusOne (divisor_of op o)) (sees_interval s b ∙ v.1) all.0) in
+        computes =
+            let can = does.can in
             let gives : applied op x y ≡ Some (operation op x y) = ap (λ t. provided t (operation op x y)) can in
-            let to_left = left.computes parts.0 in let to_right = right.computes parts.1 in
+            let to_left = left.computes in let to_right = right.computes in
             let both : (computed a cells inputs received >>= λ u. computed b cells inputs received >>= λ v. applied op u v) ≡ applied op x y = rw (to_left, to_right) refl in
             open_.computed_binary p cells inputs received op a b ∙ both ∙ gives ∙ ap Some (sym value);
       }

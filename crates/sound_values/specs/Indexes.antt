@@ -1,13 +1,11 @@
--- The indexes in an expression, and the divisors of its remainders, by their intervals.
-use Rattle.std.specs.Prelude.{ℕ, pos, negsuc, ◌-ℤ◌, IfSome, List, [], ◌∷◌, ◌++◌, Option}
+-- The indexes in an expression, by their intervals.
+use Rattle.std.specs.Prelude.{ℕ, pos, ◌-ℤ◌, IfSome, List, [], ◌∷◌, ◌++◌, Option}
 use Rattle.tap_base.specs.declared.place.Range.{Range}
-use Rattle.tap_base.specs.declared.tree.Op.{Op}
-use Rattle.tap_base.specs.declared.tree.Op.TheVariants.{Mod}
 use Rattle.tap_base.specs.declared.tree.Expr.{Expr}
 use Rattle.tap_base.specs.declared.tree.ExprKind.{map-ExprKind}
 use Rattle.tap_base.specs.declared.tree.ExprKind.TheFolds.{fold-Expr}
 use Rattle.tap_base.specs.declared.tree.ExprKind.TheOpen.{ExprKind-F}
-use Rattle.tap_base.specs.Interval.{Interval, IsIn, IsWithin, from_to, interval_step}
+use Rattle.tap_base.specs.Interval.{Interval, IsWithin, from_to, interval_step}
 use Rattle.tap_base.specs.Lists.{Each}
 use Rattle.tap_base.specs.Scope.{Scope}
 
@@ -16,11 +14,10 @@ pub record Index : Type 0 where
   pub count : ℕ
   pub interval : Option Range
 
--- what is seen of an expression: its interval, the indexes in it, and the intervals of the divisors of its remainders
+-- what is seen of an expression: its interval, and the indexes in it
 pub record Seen : Type 0 where
   pub interval : Interval
   pub indexes : Scope → List Index
-  pub divisors : Scope → List (Option Range)
 
 abbrev pub interval_by : Scope → Interval → Option Range
 interval_by s interval = interval s.cells s.inputs s.fields
@@ -35,20 +32,9 @@ indexes_seen (ExprKind-F.Neg e) s = e.indexes s
 indexes_seen (ExprKind-F.Binary op left right) s = left.indexes s ++ right.indexes s
 indexes_seen _ s = []
 
-abbrev pub divisor_of : Op → Option Range → List (Option Range)
-divisor_of Mod divisor = divisor ∷ []
-divisor_of _ divisor = []
-
-abbrev pub divisors_seen : ExprKind-F Seen Seen → Scope → List (Option Range)
-divisors_seen (ExprKind-F.Element first count index) s = index.divisors s
-divisors_seen (ExprKind-F.Not e) s = e.divisors s
-divisors_seen (ExprKind-F.Neg e) s = e.divisors s
-divisors_seen (ExprKind-F.Binary op left right) s = divisor_of op (interval_by s right.interval) ++ (left.divisors s ++ right.divisors s)
-divisors_seen _ s = []
-
 -- one level of an expression, with what is seen of its parts in their places
 abbrev pub seen_step : ExprKind-F Seen Seen → Seen
-seen_step x = record { interval = interval_seen x; indexes = indexes_seen x; divisors = divisors_seen x }
+seen_step x = record { interval = interval_seen x; indexes = indexes_seen x }
 
 abbrev pub seen : Expr → Seen
 seen = fold-Expr Seen Seen seen_step (λ e. e.kind)
@@ -65,13 +51,3 @@ IsWithinArray index = IfSome index.interval (λ range. IsWithin range (index_ran
 
 abbrev pub IndexesAreWithin : Scope → Expr → Type 0
 IndexesAreWithin s e = Each IsWithinArray ((seen e).indexes s)
-
--- ---- divisors
-
--- where the divisor has an interval, -1 is not in it
-abbrev pub MissesMinusOne : Option Range → Type 0
-MissesMinusOne divisor = IfSome divisor (λ range. IsIn (negsuc 0) range → ⊥)
-
--- no remainder in the expression is by -1
-abbrev pub RemaindersMissMinusOne : Scope → Expr → Type 0
-RemaindersMissMinusOne s e = Each MissesMinusOne ((seen e).divisors s)

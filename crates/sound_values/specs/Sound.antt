@@ -8,7 +8,7 @@ use Rattle.tap_base.specs.Resolved.{IsResolvedExpr}
 use Rattle.tap_base.specs.Scope.{Scope}
 use Rattle.tap_exec.specs.Computed.{computed}
 use Rattle.tap_exec.specs.Value.{value_of}
-use Rattle.sound_values.specs.Indexes.{IndexesAreWithin, RemaindersMissMinusOne}
+use Rattle.sound_values.specs.Indexes.{IndexesAreWithin}
 
 -- the cells, the inputs and the received values are within the ranges of what can be read
 pub record AreRead (s : Scope) (cells inputs received : List ℤ) : Type 0 where
@@ -23,11 +23,10 @@ pub record IsJudged (s : Scope) (e : Expr) (range : Range) : Type 0 where
   pub indexes : IndexesAreWithin s e
 
 -- The value lies in the interval, and 64-bit numbers compute it: no operation leaves them, no divisor is 0 and no index
--- leaves its array. What they compute is said only where no divisor of a remainder may be -1: this is a gap, since the
--- remainder by -1 is 0, but `computed` gives none for it.
+-- leaves its array.
 pub record IsSound (s : Scope) (cells inputs received : List ℤ) (e : Expr) (range : Range) : Type 0 where
   pub within : IsIn (value_of e cells inputs received) range
-  pub computes : RemaindersMissMinusOne s e → computed e cells inputs received ≡ Some (value_of e cells inputs received)
+  pub computes : computed e cells inputs received ≡ Some (value_of e cells inputs received)
 
 -- Each resolved expression that is judged right is sound, whatever fitting values it reads.
 abbrev pub ValuesAreSound : Type 0

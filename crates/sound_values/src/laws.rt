@@ -5,8 +5,7 @@ ghost use Rattle.sound_values.specs.Sound.{ValuesAreSound};
 
 /// Of a resolved expression that has an interval and whose indexes lie within their arrays: whatever
 /// fitting cells, inputs and received values it reads, its value lies in its interval, and 64-bit
-/// numbers compute it. The second is said only where no divisor of a remainder may be -1, since the
-/// evaluation of today gives nothing for a remainder by -1.
+/// numbers compute it.
 pub fn values_are_sound()
     ensures { ValuesAreSound }
 {}

@@ -1,5 +1,5 @@
 -- The value of an expression as 64-bit numbers compute it, or none where a part of it does not fit.
-use Rattle.std.specs.Prelude.{ℕ, ◌+◌, ℤ, pos, negsuc, neg_ℤ, Bool, not, ◌&&◌, if◌then◌else◌, List, Option, Some, None, slice_get, int_lt, int_le, unsigned_abs}
+use Rattle.std.specs.Prelude.{ℕ, ◌+◌, ℤ, pos, neg_ℤ, Bool, not, ◌&&◌, if◌then◌else◌, List, Option, Some, None, slice_get, int_lt, int_le, unsigned_abs}
 use Rattle.std.specs.Ordering.{int_eq}
 use Rattle.tap_base.specs.declared.tree.Op.{Op}
 use Rattle.tap_base.specs.declared.tree.Op.TheVariants.{Div, Mod}
@@ -10,10 +10,10 @@ use Rattle.tap_base.specs.Interval.{fits}
 use Rattle.tap_base.specs.Option.{◌>>=◌, provided}
 use Rattle.tap_exec.specs.Value.{truth, is_true, operation}
 
--- an operation whose result fits, with no divisor 0; a remainder by -1 is left out, since the machine has none at the least number
+-- an operation whose result fits, with no divisor 0; a remainder always fits
 abbrev pub can_apply : Op → ℤ → ℤ → Bool
 can_apply Div x y = not (int_eq y (pos 0)) && fits (operation Div x y)
-can_apply Mod x y = not (int_eq y (pos 0)) && not (int_eq y (negsuc 0))
+can_apply Mod x y = not (int_eq y (pos 0))
 can_apply op x y = fits (operation op x y)
 
 abbrev pub negated : ℤ → Option ℤ

@@ -1,8 +1,8 @@
 //! The value of an expression in 64-bit numbers.
 
-ghost use Rattle.std.specs.Prelude.{◌≡◌, IsTrue, slice_get};
+ghost use Rattle.std.specs.Prelude.{◌≡◌, ◌≢◌, IsTrue, pos, slice_get};
 ghost use Rattle.tap_exec.specs.Computed.{applied, can_apply, computed, negated};
-ghost use Rattle.tap_exec.specs.Value.{operation, truth};
+ghost use Rattle.tap_exec.specs.Value.{operation, remainder, truth};
 
 use tap_base::{Expr, ExprKind, Op};
 
@@ -75,15 +75,17 @@ fn try_apply(op: Op, x: i64, y: i64) -> Option<i64>
                 Some(apply(op, x, y))
             }
         }
-        Op::Mod => {
-            if y == 0 || y == -1 {
-                None
-            } else {
-                Some(apply(op, x, y))
-            }
-        }
+        Op::Mod => { if y == 0 { None } else { Some(apply(op, x, y)) } }
         _ => Some(apply(op, x, y)),
     }
+}
+
+/// Euclid's remainder. The machine has none of the least number by -1.
+fn remainder(x: i64, y: i64) -> i64
+    requires { y ≢ pos 0 }
+    ensures { result ≡ remainder x y }
+{
+    if y == -1 { 0 } else { x.rem_euclid(y) }
 }
 
 fn apply(op: Op, x: i64, y: i64) -> i64
@@ -103,7 +105,7 @@ fn apply(op: Op, x: i64, y: i64) -> i64
         Op::Sub => x - y,
         Op::Mul => x * y,
         Op::Div => x.div_euclid(y),
-        Op::Mod => x.rem_euclid(y),
+        Op::Mod => remainder(x, y),
         Op::Min => x.min(y),
         Op::Max => x.max(y),
     }
