@@ -1,6 +1,7 @@
 #!/usr/bin/env bash
 # Each examples/NAME/RUN.sch is run on examples/NAME/NAME.tap with the words of RUN.settings, or none, writes RUN.out and
-# ends with RUN.status, or 0; and each text that is run is accepted. No proof says what a file on the disk holds, nor what standard output takes.
+# ends with RUN.status, or 0; each text that is run is accepted; and where there is a NAME.check, check writes this. No proof
+# says what a file on the disk holds, nor what standard output takes.
 . tests/lib/cases.sh
 
 for schedule in examples/*/*.sch; do
@@ -13,6 +14,7 @@ for schedule in examples/*/*.sch; do
     writes "$status" "$run.out" world "examples/$name/$name.tap" "$schedule" "${settings[@]}"
 done
 for text in examples/*/*.tap; do
-    ls "$(dirname "$text")"/*.sch >/dev/null 2>&1 && says 0 accepted check "$text"
+    ls "$(dirname "$text")"/*.sch >/dev/null 2>&1 && accepts "$text"
+    [ -f "${text%.tap}.check" ] && writes 0 "${text%.tap}.check" check "$text"
 done
 finish

@@ -12,7 +12,7 @@ for name in examples/no-such-file examples "$text/below" "$(printf 'x%.0s' {1..5
     says 4 'read fault' world "$text" "$name"
 done
 # What is no plain file is read as well.
-says 0 accepted check <(cat "$text")
+writes 0 examples/ping/ping.check check <(cat "$text")
 writes 0 examples/ping/ping.out world <(cat "$text") <(cat examples/ping/ping.sch)
 says 1 'refused S1 1:1' check /dev/null
 writes 0 examples/counter/empty.out world examples/counter/counter.tap /dev/null

@@ -1,8 +1,8 @@
 """Each limit of the language, at its border on both sides.
 
-At the border a text is accepted, and with an empty schedule its variables and the end are written; or it has no
-offence but can't be run so far, and is refused S0. One step further it is refused by both commands, at the place
-that the mark ^ shows. The limits are proved as definitions; that the numbers of the manual are those is not.
+At the border a text is accepted, and with an empty schedule its variables and the end are written, or `world` refuses
+it S0, since it may ask for a choice. One step further it is refused by both commands, at the place that the mark ^
+shows. The limits are proved as definitions; that the numbers of the manual are those is not.
 """
 import os
 import re
@@ -11,6 +11,7 @@ import tempfile
 from lib.program import Cases, run, write
 
 ACCEPTED = "accepted"
+CHOOSING = "accepted, and not run"
 OUTSIDE = "refused S0 1:1"
 TOO_LONG = "refused L0 1:1"
 END = " begin end"
@@ -85,11 +86,18 @@ def fixed(value):
 def size_of_message(count):
     """A message of so many bytes: 146 fields of 7 of them, and further ones of one."""
     listed = "; ".join(f"f{i} : {w} bits" for i, w in enumerate([56] * 146 + [8] * (count - 1022)))
-    return f"message m begin {listed} end process a" + END
+    return f"message ^m begin {listed} end process a" + END
 
 
-def statements(count):
-    return "process a begin 0 = 1 -> " + "; ".join(["skip"] * count) + " end"
+def cost(most):
+    """An action of this cost: its guard costs 1, the loop 1 + 1000 * (1 + 1 + 997), and each other statement 1."""
+    turn, others = "; ".join(["skip"] * 997), "; skip" * (most - 999_002)
+    return f"process a begin ^true -> do 1000 times true -> {turn} od{others} end"
+
+
+def sends(count):
+    sent = "; ".join(["send m(1) to b"] * count)
+    return f"message m begin f : 8 bits end process a begin ^true -> {sent} end process b begin rcv m from a -> skip end"
 
 
 def size(length):
@@ -108,25 +116,25 @@ LIMITS = [
     ("fields of a message", fields, 256, ACCEPTED, "X1"),
     ("inputs of a process", inputs, 256, ACCEPTED, "X1"),
     ("variables of a process", variables, 4096, ACCEPTED, "X1"),
-    ("cells of an array", array, 4096, OUTSIDE, "X1"),
-    ("cells of a process", behind_an_array, 4096, OUTSIDE, "X1"),
-    ("timers of a process", timers, 32, OUTSIDE, "X1"),
+    ("cells of an array", array, 4096, ACCEPTED, "X1"),
+    ("cells of a process", behind_an_array, 4096, ACCEPTED, "X1"),
+    ("timers of a process", timers, 32, ACCEPTED, "X1"),
     ("actions of a process", actions, 256, ACCEPTED, "X1"),
-    ("turns of a loop", turns, 65536, OUTSIDE, "X1"),
-    ("values of a choice", chosen, 2**32, OUTSIDE, "X1"),
-    ("values of a choice of a cell", chosen_of_cells, 2**32, OUTSIDE, "X1"),
+    ("turns of a loop", turns, 65536, ACCEPTED, "X1"),
+    ("values of a choice", chosen, 2**32, CHOOSING, "X1"),
+    ("values of a choice of a cell", chosen_of_cells, 2**32, CHOOSING, "X1"),
     ("bytes of a message's name", named("message ", " begin f : 8 bits end process a" + END), 64, ACCEPTED, "X1"),
     ("bytes of a field's name", named("message m begin ", " : 8 bits end process a" + END), 64, ACCEPTED, "X1"),
     ("bytes of a process's name", named("process ", END), 64, ACCEPTED, "X1"),
     ("bytes of a constant's name", named("process a const ", " = 1" + END), 64, ACCEPTED, "X1"),
     ("bytes of an input's name", named("process a inp ", " : boolean" + END), 64, ACCEPTED, "X1"),
     ("bytes of a variable's name", named("process a var ", " : boolean" + END), 64, ACCEPTED, "X1"),
-    ("bytes of a timer's name", named("process a timer ", END), 64, OUTSIDE, "X1"),
-    ("bits of a field", width, 63, OUTSIDE, "X2"),
-    ("a fixed value of 8 bits", fixed, 255, OUTSIDE, "X2"),
-    ("bits of a field that can be run", lambda n: width(n).replace("^", ""), 56, ACCEPTED, "S0"),
-    ("bytes of a message", size_of_message, 1024, ACCEPTED, "S0"),
-    ("statements of an action", statements, 64, ACCEPTED, "S0"),
+    ("bytes of a timer's name", named("process a timer ", END), 64, ACCEPTED, "X1"),
+    ("bits of a field", width, 63, ACCEPTED, "X2"),
+    ("a fixed value of 8 bits", fixed, 255, ACCEPTED, "X2"),
+    ("bytes of a message", size_of_message, 1024, ACCEPTED, "M1"),
+    ("cost of an action", cost, 1_000_000, ACCEPTED, "W6"),
+    ("sends of an action", sends, 64, ACCEPTED, "W7"),
     ("bytes of a text", size, 1048576, ACCEPTED, "L0"),
 ]
 # What has no limit but that of the text.
@@ -154,8 +162,11 @@ def main():
             write(system, text)
             status, written = run("check", system)
             again, lines = run("world", system, schedule, *settings(text))
-            line = written.decode().rstrip("\n")
-            if line == ACCEPTED:
+            line = written.decode().split("\n")[0]
+            if line == ACCEPTED and (again, lines.decode()) == (1, OUTSIDE + "\n"):
+                line = CHOOSING
+                cases.hold(status == 0, f"{line}: check ends with {status}")
+            elif line == ACCEPTED:
                 cases.hold((status, again) == (0, 0) and lines.endswith(b"end\n"), f"accepted, and not run: {again}")
             else:
                 cases.hold((status, again, lines) == (1, 1, written), f"{line}: world writes {lines[:60]!r}, {again}")

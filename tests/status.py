@@ -10,9 +10,10 @@ from lib.program import Cases, run
 
 LAST = [
     (0, "world", r"end\n"),
-    (0, "check", r"accepted\n"),
+    (0, "check", r"process [A-Za-z]\w* \d+ \d+\n"),
     (0, "print", r"end\n"),
     (1, None, r"refused [A-Z]\d+ \d+:\d+\n"),
+    (1, None, r"refused M2 \d+:\d+ [A-Za-z]\w* [A-Za-z]\w*\n"),
     (1, "world", r"refused I\d [A-Za-z]\w*\.[A-Za-z]\w*\n"),
     (2, None, r"usage: tapc [a-z |]+\n"),
     (3, "world", r"bad line \d+\n"),

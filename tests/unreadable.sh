@@ -18,7 +18,7 @@ fi
 TAPC=$folder/as_user
 printf '#!/bin/sh\nexec %s "$@"\n' "${as_user[*]} $folder/tapc" >"$TAPC"
 chmod 755 "$TAPC"
-says 0 accepted check "$folder/ping.tap"
+writes 0 examples/ping/ping.check check "$folder/ping.tap"
 says 4 'read fault' check "$folder/closed"
 says 4 'read fault' print "$folder/closed"
 says 4 'read fault' world "$folder/closed" "$folder/ping.sch"

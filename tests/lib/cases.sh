@@ -31,6 +31,24 @@ says() { # says STATUS LINES WORD..
     writes "$status" "$folder/wanted" "$@"
 }
 
+# The text is accepted: the first line says so, and then come those of messages and those of processes, of which there is
+# one at least.
+accepts() { # accepts TEXT
+    local got
+    "$TAPC" check "$1" >"$folder/written" 2>"$folder/errors"
+    got=$?
+    cases=$((cases + 1))
+    if [ "$got" -eq 0 ] && [ "$(head -n 1 "$folder/written")" = accepted ] && [ ! -s "$folder/errors" ] &&
+        [ "$(wc -l <"$folder/written")" -gt 1 ] &&
+        ! tail -n +2 "$folder/written" |
+            grep -qvE '^(message [A-Za-z][A-Za-z0-9_]*|process [A-Za-z][A-Za-z0-9_]* (0|[1-9][0-9]*)) (0|[1-9][0-9]*)$'; then
+        return 0
+    fi
+    wrong=$((wrong + 1))
+    echo "tapc check $1: status $got, and it is to be accepted"
+    head -n 5 "$folder/written" "$folder/errors"
+}
+
 # Fails where the shell command before it failed.
 holds() { # holds STATUS WHAT
     cases=$((cases + 1))

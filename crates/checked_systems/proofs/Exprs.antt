@@ -10,16 +10,16 @@ use Rattle.tap_base.specs.declared.refusal.RefusalCode.TheVariants.{W2, W3, W4}
 use Rattle.tap_base.specs.declared.tree.Op.{Op}
 use Rattle.tap_base.specs.declared.tree.Expr.{Expr}
 use Rattle.tap_base.specs.declared.tree.ExprKind.TheVariants as kind
-use Rattle.tap_base.specs.Interval.{IsWithin, from_to, has_zero, negation_range, operation_range, truth_range}
+use Rattle.tap_base.specs.Interval.{IsWithin, from_to, has_zero, index_range, negation_range, operation_range, truth_range}
 use Rattle.tap_base.specs.Lists.{Each}
 use Rattle.tap_base.specs.Offences.{offence, where_}
 use Rattle.tap_base.specs.Parts.{leaves}
 use Rattle.tap_base.specs.Resolved.{IsResolvedExpr, IsThere}
 use Rattle.tap_base.specs.Scope.{Scope}
 use Rattle.tap_base.proofs.ListFacts.{both_empty, each_append, each_split, element_at}
-use Rattle.sound_values.specs.Indexes.{IsWithinArray, Seen, index_range, interval_by, seen}
+use Rattle.sound_values.specs.Indexes.{IsWithinArray, Seen, interval_by, seen}
 use Rattle.sound_values.specs.Sound.{IsJudged}
-use Rattle.sound_values.proofs.ExprInduction.{expr, of_expr}
+use Rattle.tap_base.proofs.ExprInduction.{expr, of_expr}
 use Rattle.sound_values.proofs.ExprOpen as open_
 use Rattle.sound_values.proofs.ExprOpen.{interval_in}
 use Rattle.sound_values.proofs.Values.{sees_interval}

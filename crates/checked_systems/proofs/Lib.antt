@@ -1,3 +1,4 @@
 pub mod Exprs
 pub mod Open
+pub mod Running
 pub mod Systems

@@ -15,7 +15,7 @@ use Rattle.tap_base.specs.declared.tree.Target.{Target}
 use Rattle.tap_base.specs.Interval.{bounded, negation_range, truth_range}
 use Rattle.tap_base.specs.ListWords.{joined}
 use Rattle.tap_base.specs.Scope.{Scope}
-use Rattle.sound_values.proofs.ExprInduction.{expr}
+use Rattle.tap_base.proofs.ExprInduction.{expr}
 use Rattle.width_check.specs.ExprOffences.{expr_offences, index_offences, judged, negation_offences, operation_interval, operation_offences}
 use Rattle.width_check.specs.StmtOffences.{assignment_offences, body_offences, branch_offences, delay_offences, field_offences, sent_fields, stmt_offences, target_offences}
 

@@ -13,6 +13,7 @@ use Rattle.tap_base.specs.declared.tree.Expr.{Expr}
 use Rattle.tap_base.specs.declared.tree.Stmt.{Stmt}
 use Rattle.tap_base.specs.declared.tree.Stmt.TheVariants as stmt
 use Rattle.tap_base.specs.declared.tree.Target.{Target}
+use Rattle.tap_base.specs.Interval.{delay_range, index_range}
 use Rattle.tap_base.specs.Lists.{Each, EachBoth, EachFrom}
 use Rattle.tap_base.specs.ListWords.{joined}
 use Rattle.tap_base.specs.Offences.{where_}
@@ -21,15 +22,14 @@ use Rattle.tap_base.specs.Resolved.{IsMet, IsResolvedAction, IsResolvedExpr, IsR
 use Rattle.tap_base.specs.Scope.{Scope, scope_of, value_range}
 use Rattle.tap_base.proofs.ListFacts.{both_empty, each_append, each_split}
 use Rattle.tap_exec.proofs.StmtInduction.{of_stmt}
-use Rattle.sound_values.specs.Indexes.{index_range}
 use Rattle.sound_bodies.specs.Judged.{FitsRange, IsJudgedAction, IsJudgedDeed, IsJudgedGuard, IsJudgedTarget}
-use Rattle.sound_bodies.specs.Sends.{body_sends}
+use Rattle.tap_base.specs.Sends.{action_sends, body_sends}
 use Rattle.sound_bodies.proofs.DeedsOpen as open_
 use Rattle.sound_bodies.proofs.SoundSystem.{bodies_sound}
-use Rattle.width_check.specs.Cost.{action_cost, action_sends}
+use Rattle.width_check.specs.Cost.{action_cost}
 use Rattle.width_check.specs.ExprOffences.{expr_offences, judged, where_wider}
 use Rattle.width_check.specs.Offences.{action_offences, guard_offences, limit_offences, most_cost, most_sends, process_offences}
-use Rattle.width_check.specs.StmtOffences.{body_offences, branch_offences, delay_range, field_offences, offences_of_index, sent_fields, stmt_offences, target_offences, value_offences, width_offences}
+use Rattle.width_check.specs.StmtOffences.{body_offences, branch_offences, field_offences, offences_of_index, sent_fields, stmt_offences, target_offences, value_offences, width_offences}
 use Rattle.checked_systems.specs.CheckedIsSound.{CheckedIsSound}
 use Rattle.checked_systems.proofs.Exprs.{fits, right}
 use Rattle.checked_systems.proofs.Open as judge_

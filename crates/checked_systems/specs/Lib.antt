@@ -1,1 +1,2 @@
 pub mod CheckedIsSound
+pub mod CheckedRuns

@@ -5,10 +5,10 @@ use Rattle.run_text.specs.ScheduleText.{SpellsSchedule}
 use Rattle.run_text.specs.TraceText.{names_in}
 use Rattle.tap_settings.specs.SettingText.{Assignment}
 use Rattle.tapc_core.specs.Command.{AreFound}
-use Rattle.tapc_core.specs.Entries.{contents_of}
-use Rattle.tapc_core.specs.MemorySink.{SinkValue}
-use Rattle.tapc_core.specs.MemoryStore.{StoreValue}
-use Rattle.tapc_core.specs.Outside.{IsTold}
+use Rattle.link_trait.specs.Entries.{contents_of}
+use Rattle.link_trait.specs.MemorySink.{SinkValue}
+use Rattle.link_trait.specs.MemoryStore.{StoreValue}
+use Rattle.link_trait.specs.Outside.{IsTold}
 use Rattle.tapc_core.specs.Run.{Gives}
 use Rattle.tapc_core.specs.Written.{Puts}
 use Rattle.tapc_core.specs.commands.World.{IsTrace, reads_both, task_of}

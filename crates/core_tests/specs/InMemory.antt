@@ -10,9 +10,9 @@ use Rattle.run_text.specs.OneTrace.{IsTraceOf}
 use Rattle.run_text.specs.ScheduleText.{SpellsSchedule}
 use Rattle.run_text.specs.TraceText.{names_in}
 use Rattle.tap_settings.specs.SettingText.{Assignment}
-use Rattle.tapc_core.specs.Entries.{contents_of}
-use Rattle.tapc_core.specs.MemorySink.{SinkValue}
-use Rattle.tapc_core.specs.MemoryStore.{StoreValue}
+use Rattle.link_trait.specs.Entries.{contents_of}
+use Rattle.link_trait.specs.MemorySink.{SinkValue}
+use Rattle.link_trait.specs.MemoryStore.{StoreValue}
 use Rattle.tapc_core.specs.Run.{Gives, IsRunFrom}
 
 -- The bytes are the trace of labels that answer the events of a schedule, in what a text and settings give.

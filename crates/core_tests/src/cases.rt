@@ -5,11 +5,12 @@ ghost use Rattle.core_tests.specs.InMemory.{TookTrace};
 ghost use Rattle.tap_settings.specs.SettingText.{Assignment};
 ghost use Rattle.tapc_core.specs.Words.{command_of, world};
 
+use link_trait::{MemorySink, MemoryStore};
 use std::alloc::Global;
 use std::process::Abort;
 use std::test::Fail;
 use tap_base::{List, NoMemory, Text};
-use tapc_core::{MemorySink, MemoryStore, Status, run};
+use tapc_core::{Status, run};
 
 /// The number of a call that is never made, since calls are counted from 1.
 pub const NEVER: u64 = 0;

@@ -1,7 +1,7 @@
 //! What `check`, `world` and `print` answer to a text: it is accepted or refused.
 
-use super::cases::{CALM, CHECK, Case, PRINT, answer, check};
-use super::texts::{ALTERNATING_BIT, COUNTER, CUT, PING, TOKEN, TRI};
+use super::cases::{CALM, CHECK, Case, PRINT, WORLD, answer, check};
+use super::texts::{COUNTER, CUT, PING, TOKEN, TRI};
 use std::alloc::Global;
 use std::process::Abort;
 use std::test::Fail;
@@ -10,41 +10,59 @@ use tapc_core::Status;
 /// A text: its name, itself, the status, and the line.
 type Row = (&'static str, &'static [u8], Status, &'static [u8]);
 
-const ACCEPTED: &[u8] = b"accepted\n";
-
-/// What is written of a text without an offence that can't be run so far.
+/// What `world` writes of a text that is accepted, and can't be run so far.
 const OUTSIDE: &[u8] = b"refused S0 1:1\n";
 
 /// Those that are read as trees.
-fn trees() -> [Row; 18] {
+fn trees() -> [Row; 19] {
     [
-        ("a counter", COUNTER, Status::Done, ACCEPTED),
-        ("a datagram", PING, Status::Done, ACCEPTED),
+        (
+            "a counter",
+            COUNTER,
+            Status::Done,
+            b"accepted\nprocess a 1 5\n",
+        ),
+        (
+            "a datagram",
+            PING,
+            Status::Done,
+            b"accepted\nmessage ping 1\nprocess a 1 7\nprocess b 1 2\n",
+        ),
         (
             "a system with a send to be cut",
             CUT,
             Status::Done,
-            ACCEPTED,
+            b"accepted\nmessage m 1\nprocess a 1 11\nprocess b 1 1\nprocess c 1 1\n",
         ),
-        ("three actions", TRI, Status::Done, ACCEPTED),
-        ("a token that is handed on", TOKEN, Status::Done, ACCEPTED),
         (
-            "the alternating bit protocol",
-            ALTERNATING_BIT,
-            Status::Refused,
-            OUTSIDE,
+            "three actions",
+            TRI,
+            Status::Done,
+            b"accepted\nprocess a 3 3\n",
+        ),
+        (
+            "a token that is handed on",
+            TOKEN,
+            Status::Done,
+            b"accepted\nmessage token 1\nprocess left 3 7\nprocess right 3 7\n",
+        ),
+        (
+            "no action",
+            b"process a begin end",
+            Status::Done,
+            b"accepted\nprocess a 0 0\n",
         ),
         (
             "a parenthesis in a guard",
             b"process a var k : 0..1 begin (k) = 0 -> skip end",
             Status::Done,
-            ACCEPTED,
+            b"accepted\nprocess a 1 4\n",
         ),
         (
             "a bracket at depth 32",
             b"process a begin ((((((((((((((((((((((((((((((((1)))))))))))))))))))))))))))))))) = 1 -> skip end",
             Status::Done,
-            ACCEPTED,
+            b"accepted\nprocess a 1 4\n",
         ),
         (
             "a variable that is not declared",
@@ -103,8 +121,14 @@ fn trees() -> [Row; 18] {
         (
             "a sum",
             b"process a var x : 0..9 begin x = 0 -> x := 1 + 1 end",
-            Status::Refused,
-            OUTSIDE,
+            Status::Done,
+            b"accepted\nprocess a 1 7\n",
+        ),
+        (
+            "messages of 1 and 17 bits",
+            b"message m begin f : 1 bits end message n begin g : 9 bits; h : 8 bits = 3 end process a begin end",
+            Status::Done,
+            b"accepted\nmessage m 1\nmessage n 3\nprocess a 0 0\n",
         ),
     ]
 }
@@ -265,14 +289,41 @@ fn world_refuses_them(rt: &impl Abort, alloc: Global, rows: &[Row]) -> Result<()
     Ok(())
 }
 
+/// Texts that are accepted, and may ask for a choice, and what `check` writes of them.
+#[test]
+fn a_text_that_may_ask_for_a_choice_is_not_run(rt: HostRuntime) -> Result<(), Fail> {
+    for (name, text, lines) in [
+        (
+            "a choice of a value",
+            "process a var x : 0..9 begin true -> choose x end",
+            "accepted\nprocess a 1 2\n",
+        ),
+        (
+            "a selection of two branches",
+            "process a var x : 0..9 begin true -> if x = 0 -> x := 1 [] x = 1 -> skip fi end",
+            "accepted\nprocess a 1 11\n",
+        ),
+        (
+            "a loop of two branches",
+            "process a var x : 0..9 begin true -> do 3 times x = 0 -> x := 1 [] x = 1 -> x := 0 od end",
+            "accepted\nprocess a 1 35\n",
+        ),
+    ] {
+        let row = (name, text.as_bytes(), Status::Done, lines.as_bytes());
+        check(&rt, rt.alloc(), &case_of(&row, CHECK))?;
+        let row = (name, text.as_bytes(), Status::Refused, OUTSIDE);
+        check(&rt, rt.alloc(), &case_of(&row, WORLD))?;
+    }
+    Ok(())
+}
+
 #[test]
 fn the_world_refuses_the_same(rt: HostRuntime) -> Result<(), Fail> {
     world_refuses_them(&rt, rt.alloc(), &trees())?;
     world_refuses_them(&rt, rt.alloc(), &others())
 }
 
-/// Only what keeps a text from being read as a tree is told: a text whose names, kinds or limits are refused, or that
-/// can't be run, is printed.
+/// Only what keeps a text from being read as a tree is told: a text whose names, kinds or limits are refused is printed.
 #[test]
 fn a_text_that_is_a_tree_is_printed(rt: HostRuntime) -> Result<(), Fail> {
     for row in &trees() {

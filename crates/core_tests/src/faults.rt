@@ -57,7 +57,7 @@ fn rows() -> [Row; 6] {
             3,
             &[b""],
             Status::Done,
-            b"accepted\n",
+            b"accepted\nprocess a 1 5\n",
         ),
         (
             "check of a text that is refused",

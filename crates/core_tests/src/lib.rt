@@ -9,8 +9,6 @@ mod checked;
 #[cfg(test)]
 mod faults;
 #[cfg(test)]
-mod forms;
-#[cfg(test)]
 mod long;
 #[cfg(test)]
 mod played;
@@ -18,6 +16,8 @@ mod played;
 mod printed;
 #[cfg(test)]
 mod settings;
+#[cfg(test)]
+mod statuses;
 #[cfg(test)]
 mod texts;
 #[cfg(test)]

@@ -2,9 +2,10 @@
 
 use super::cases::{CALM, CHECK, Case, NEVER, PRINT, WORLD, check, ran, sink_of, words_of};
 use super::texts::COUNTER;
+use link_trait::MemoryStore;
 use std::alloc::Global;
 use std::test::Fail;
-use tapc_core::{MemoryStore, Status};
+use tapc_core::Status;
 
 /// A text of the greatest length is read, and one of a byte more is not.
 #[test]

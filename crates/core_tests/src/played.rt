@@ -1,7 +1,7 @@
 //! Runs of `world`: a system, a schedule, and what must come of them.
 
 use super::cases::{CALM, Case, WORLD, check};
-use super::texts::{ALIKE, APART, CHAIN, COUNTER, EITHER, PING, TOKEN, TRI, WIDE};
+use super::texts::{APART, CHAIN, COUNTER, EITHER, PING, TOKEN, WIDE};
 use std::test::Fail;
 use tapc_core::Status;
 
@@ -14,11 +14,8 @@ type Row = (
     &'static [u8],
 );
 
-/// What is written of a text without an offence that can't be run so far.
-const OUTSIDE: &[u8] = b"refused S0 1:1\n";
-
 /// All of them.
-fn rows() -> [Row; 45] {
+fn rows() -> [Row; 44] {
     [
         // A process counts once, and is idle then.
         (
@@ -46,13 +43,13 @@ fn rows() -> [Row; 45] {
             Status::BadSchedule,
             b"tick a 0\nact a 0\nbad line 2\n",
         ),
-        // Of two enabled actions the first one runs.
+        // Of two enabled actions the one behind the last that ran.
         (
-            "first of two",
+            "one after the other",
             EITHER,
-            b"turn a 0\nturn a 0\n",
+            b"turn a 0\nturn a 0\nturn a 0\n",
             Status::Done,
-            b"tick a 0\nact a 0\ntick a 0\nact a 0\nvar a x 1\nend\n",
+            b"tick a 0\nact a 0\ntick a 0\nact a 1\ntick a 0\nact a 0\nvar a x 1\nend\n",
         ),
         // An empty text has no tokens, and is no tree.
         ("no text", b"", b"", Status::Refused, b"refused S1 1:1\n"),
@@ -122,8 +119,6 @@ tick b 3\nidle b\nvar a k 1\nvar b seen 1\nend\n",
             b"tick a 0\nact a 0\nsent b 010203020101020304050607\narrive a b\ntick b 0\nact b 0\n\
 var a k 1\nvar b v 258\nvar b w 197121\nend\n",
         ),
-        // Two messages of one length from one peer.
-        ("not told apart", ALIKE, b"", Status::Refused, OUTSIDE),
         // Datagrams of one channel are received in the order of the sends.
         (
             "in order",
@@ -252,17 +247,25 @@ tick b 0\nact b 0\nvoid\ntick b 1\nidle b\nvar a k 1\nvar b s 1\nend\n",
             "truths",
             b"process a const l = -3 var x : l..9 = 9; u : boolean = 1 \
 begin false -> x := 1 [] u -> u := false; x := l [] u = false -> u := true; x := 2 [] true -> x := 3 end",
-            b"turn a 0\nturn a 1\nturn a 2\n",
+            b"turn a 0\nturn a 1\nturn a 2\nturn a 3\n",
             Status::Done,
-            b"tick a 0\nact a 1\ntick a 1\nact a 2\ntick a 2\nact a 1\nvar a x -3\nvar a u 0\nend\n",
+            b"tick a 0\nact a 1\ntick a 1\nact a 2\ntick a 2\nact a 3\ntick a 3\nact a 1\nvar a x -3\nvar a u 0\nend\n",
         ),
-        // Three actions are always enabled, and the first one runs.
+        // Rounds 1 to 3 add 2, and in round 4 the guard is false.
         (
-            "first of three",
-            TRI,
+            "a loop of one branch",
+            b"process a var x : 0..9 begin x = 0 -> do 4 times x < 5 -> x := min(x + 2, 9) od end",
             b"turn a 0\nturn a 1\n",
             Status::Done,
-            b"tick a 0\nact a 0\ntick a 1\nact a 0\nvar a x 0\nend\n",
+            b"tick a 0\nact a 0\ntick a 1\nidle a\nvar a x 6\nend\n",
+        ),
+        // Element 2 becomes 5, and element 0 what element 2 is.
+        (
+            "elements of an array",
+            b"process a var k : 0..2; v : array 3 of 0..9 begin k = 0 -> k := 2; v[k] := 5; v[0] := v[k] end",
+            b"turn a 0\nturn a 1\n",
+            Status::Done,
+            b"tick a 0\nact a 0\ntick a 1\nidle a\nvar a k 2\nvar a v 5 0 5\nend\n",
         ),
         // A token goes to and fro.
         (
@@ -286,21 +289,15 @@ var right has 0\nvar right works 0\nvar right seen 7\nend\n",
 tick right 2\nidle right\ntick left 3\nidle left\nvar left has 0\nvar left works 0\nvar left seen -1\n\
 var right has 0\nvar right works 0\nvar right seen -1\nend\n",
         ),
-        // A field of no whole byte.
+        // 5 and 100 are 0101 and 1100100 in bits.
         (
-            "seven bits",
-            b"message m begin n : 7 bits end process a begin end process b begin end",
-            b"",
-            Status::Refused,
-            OUTSIDE,
-        ),
-        // A field of more than 56 bits.
-        (
-            "sixty three bits",
-            b"message m begin n : 63 bits end process a begin end process b begin end",
-            b"",
-            Status::Refused,
-            OUTSIDE,
+            "a fixed field and seven bits",
+            b"message m begin kind : 4 bits = 5; n : 7 bits end \
+process a var k : 0..1 begin k = 0 -> k := 1; send m(100) to b end \
+process b var s : 0..127 begin rcv m from a -> s := m.n + m.kind - 5 end",
+            b"turn a 0\narrive a b\nturn b 1\n",
+            Status::Done,
+            b"tick a 0\nact a 0\nsent b 5c80\narrive a b\ntick b 1\nact b 0\nvar a k 1\nvar b s 100\nend\n",
         ),
         // A field of more than 63 bits.
         (
@@ -324,7 +321,7 @@ var right has 0\nvar right works 0\nvar right seen -1\nend\n",
             b"process a var k : 0..1; n : 0..2 begin k = 0 -> k := n end",
             b"",
             Status::Refused,
-            OUTSIDE,
+            b"refused W1 1:49\n",
         ),
         // A process that sends to itself.
         (

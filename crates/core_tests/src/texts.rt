@@ -26,11 +26,6 @@ pub const WIDE: &[u8] = b"message wide begin x : 16 bits; y : 24 bits; z : 56 bi
 process a var k : 0..1 begin k = 0 -> k := 1; send wide(258, 197121, 283686952306183) to b end \
 process b var v : 0..65535; w : 0..16777215 begin rcv wide from a -> v := wide.x; w := wide.y end";
 
-/// Two messages of one length from one peer.
-pub const ALIKE: &[u8] = b"message p begin x : 8 bits end message q begin y : 8 bits end \
-process a var k : 0..1 begin k = 0 -> k := 1; send p(1) to b; send q(2) to b end \
-process b var s : 0..255 begin rcv p from a -> s := p.x [] rcv q from a -> s := q.y end";
-
 /// Two messages of different lengths from one peer.
 pub const APART: &[u8] = b"message p begin x : 8 bits end message q begin y : 16 bits end \
 process a var k : 0..1 begin k = 0 -> k := 1; send p(1) to b; send q(2) to b end \

@@ -50,8 +50,8 @@ begin
 end
 ";
 
-/// A text is read as a tree also where it has an offence of names, kinds and limits, or can't be run so far. It is
-/// accepted, or refused with a code at its mark, or at its start where it has none.
+/// A text is read as a tree also where it has an offence of names, kinds, limits or widths. It is accepted, or refused with
+/// a code at its mark.
 #[test]
 fn a_text_that_is_a_tree_is_accepted_or_refused(rt: HostRuntime) -> Result<(), Fail> {
     let table = [
@@ -59,7 +59,7 @@ fn a_text_that_is_a_tree_is_accepted_or_refused(rt: HostRuntime) -> Result<(), F
         ("a datagram", PING, "accepted"),
         ("a system with a send to be cut", CUT, "accepted"),
         ("three actions", TRI, "accepted"),
-        ("the alternating bit protocol", ALTERNATING_BIT, "S0"),
+        ("the alternating bit protocol", ALTERNATING_BIT, "accepted"),
         (
             "a parenthesis in a guard",
             "process a var k : 0..1 begin (k) = 0 -> skip end",

@@ -3,7 +3,7 @@
 use super::texts::{read_line, repeated, unmarked};
 use std::alloc::Global;
 use std::test::Fail;
-use tap_base::{Place, Refusal, RefusalCode};
+use tap_base::{Place, Refusal, RefusalCode, Text};
 use tap_front::{Offence, refused_line};
 
 /// The line of a text that is refused with this code at its mark, and the line that is told of it.
@@ -347,8 +347,20 @@ fn a_code_is_printed_as_it_is_named(rt: HostRuntime) -> Result<(), Fail> {
         let place = Place { line: 2, column: 3 };
         let offence = Offence::Coded(Refusal { code, place });
         let wanted = format!(in rt.alloc(); "refused {code:?} 2:3\n")?;
-        let found = refused_line(rt.alloc(), offence)?;
+        let found = refused_line(rt.alloc(), &offence)?;
         assert!(rt; found.as_str() == wanted.as_str(), "{code:?}: {found}");
     }
+    Ok(())
+}
+
+#[test]
+fn messages_that_are_alike_are_named(rt: HostRuntime) -> Result<(), Fail> {
+    let offence = Offence::Alike {
+        place: Place { line: 2, column: 3 },
+        first: Text::copy_of(rt.alloc(), "ping")?,
+        second: Text::copy_of(rt.alloc(), "pong")?,
+    };
+    let found = refused_line(rt.alloc(), &offence)?;
+    assert!(rt; found.as_str() == "refused M2 2:3 ping pong\n", "{found}");
     Ok(())
 }

@@ -84,8 +84,8 @@ fn a_text_names_a_system(rt: HostRuntime) -> Result<(), Fail> {
         ),
     ];
     for (name, text, wanted) in table {
-        if let Ok(system) = accept(rt.alloc(), text.as_bytes()) {
-            let found = shown(rt.alloc(), &system)?;
+        if let Ok(checked) = accept(rt.alloc(), text.as_bytes()) {
+            let found = shown(rt.alloc(), checked.system())?;
             assert!(rt; found.as_str() == wanted, "{name}: {found}");
         } else {
             assert!(rt; false, "{name}");

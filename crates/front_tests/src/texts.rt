@@ -4,7 +4,7 @@ use std::alloc::Global;
 use std::fmt::Write;
 use std::test::Fail;
 use tap_base::Place;
-use tap_front::{Offence, TextFault, accept, refused_line, tree_of};
+use tap_front::{Offence, TextFault, accept, accept_to_run, refused_line, tree_of};
 use tap_parser::ParseFault;
 
 /// A text without its mark `^`, and the place of the byte behind the mark.
@@ -67,22 +67,51 @@ pub fn offence_lines(alloc: Global, marked: &str, code: &str) -> Result<(String,
     Ok((wanted, accepted_line(alloc, text.as_slice())?))
 }
 
-/// The line of an answer to a text, and the line that is told of it: the answer is `accepted`, or the code of an offence
-/// at its mark.
-pub fn answer_lines(alloc: Global, marked: &str, answer: &str) -> Result<(String, String), Fail> {
-    let (wanted, found) = offence_lines(alloc, marked, answer)?;
+/// The line of an answer at a place: it is `accepted`, or the code of an offence there.
+fn answer_line(alloc: Global, answer: &str, place: Place) -> Result<String, Fail> {
     if answer == "accepted" {
-        return Ok((String::from_str(alloc, "accepted\n")?, found));
+        return Ok(String::from_str(alloc, "accepted\n")?);
     }
-    Ok((wanted, found))
+    Ok(format!(in alloc; "refused {answer} {}:{}\n", place.line, place.column)?)
+}
+
+/// The line of an answer to a text, at its mark, and the line that is told of it.
+pub fn answer_lines(alloc: Global, marked: &str, answer: &str) -> Result<(String, String), Fail> {
+    let (text, place) = unmarked(alloc, marked.as_bytes())?;
+    let wanted = answer_line(alloc, answer, place)?;
+    Ok((wanted, accepted_line(alloc, text.as_slice())?))
+}
+
+/// The line of an answer to a text that is to run, at its mark, and the line that is told of it.
+pub fn run_lines(alloc: Global, marked: &str, answer: &str) -> Result<(String, String), Fail> {
+    let (text, place) = unmarked(alloc, marked.as_bytes())?;
+    let wanted = answer_line(alloc, answer, place)?;
+    Ok((wanted, run_line(alloc, text.as_slice())?))
+}
+
+/// The line of two messages that are not told apart, by both names and at the mark of a text, and the line that is told of
+/// the text.
+pub fn alike_lines(alloc: Global, marked: &str, names: &str) -> Result<(String, String), Fail> {
+    let (text, place) = unmarked(alloc, marked.as_bytes())?;
+    let wanted = format!(in alloc; "refused M2 {}:{} {names}\n", place.line, place.column)?;
+    Ok((wanted, accepted_line(alloc, text.as_slice())?))
 }
 
 /// The line of what keeps a text from being read as a tree, or that it is read.
 pub fn read_line(alloc: Global, text: &[u8]) -> Result<String, Fail> {
     match tree_of(alloc, text) {
         Ok(_) => Ok(String::from_str(alloc, "read\n")?),
-        Err(ParseFault::Refused(refusal)) => Ok(refused_line(alloc, Offence::Coded(refusal))?),
+        Err(ParseFault::Refused(refusal)) => Ok(refused_line(alloc, &Offence::Coded(refusal))?),
         Err(ParseFault::NoMemory) => Ok(String::from_str(alloc, "no memory\n")?),
+    }
+}
+
+/// The line of the first offence of a text for a run, or that it is accepted.
+pub fn run_line(alloc: Global, text: &[u8]) -> Result<String, Fail> {
+    match accept_to_run(alloc, text) {
+        Ok(_) => Ok(String::from_str(alloc, "accepted\n")?),
+        Err(TextFault::Refused(offence)) => Ok(refused_line(alloc, &offence)?),
+        Err(TextFault::NoMemory) => Ok(String::from_str(alloc, "no memory\n")?),
     }
 }
 
@@ -90,7 +119,7 @@ pub fn read_line(alloc: Global, text: &[u8]) -> Result<String, Fail> {
 pub fn accepted_line(alloc: Global, text: &[u8]) -> Result<String, Fail> {
     match accept(alloc, text) {
         Ok(_) => Ok(String::from_str(alloc, "accepted\n")?),
-        Err(TextFault::Refused(offence)) => Ok(refused_line(alloc, offence)?),
+        Err(TextFault::Refused(offence)) => Ok(refused_line(alloc, &offence)?),
         Err(TextFault::NoMemory) => Ok(String::from_str(alloc, "no memory\n")?),
     }
 }

@@ -1,5 +1,5 @@
 //! Tests of what a run is made of: the abstract system and the spelling of its messages, the lines of labels, of
-//! variables and of events, and the world. The systems are those that texts are accepted as.
+//! variables and of events, and the world. The systems are those that texts can be run as.
 #![tactic(auto)]
 
 #[cfg(test)]

@@ -74,7 +74,11 @@ fn check_steps(
 ) -> Result<(), Fail> {
     let system = system_of(alloc, text)?;
     let inputs = no_inputs(alloc, &system)?;
-    let World { system, mut state } = World::new(alloc, system, &inputs)?;
+    let World {
+        system,
+        mut state,
+        ..
+    } = World::new(alloc, system, &inputs)?;
     for (name, label, lines, ready) in rows {
         let done = does(alloc, &system, &mut state, label)?;
         assert_eq!(rt; done.as_str(), *lines, "{name}");

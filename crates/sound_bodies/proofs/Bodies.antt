@@ -20,8 +20,8 @@ use Rattle.tap_exec.proofs.StmtOpen as exec_
 use Rattle.abstract_run.specs.Messages.{Receives}
 use Rattle.abstract_run.specs.Semantics.{ProcessSemantics, Semantics}
 use Rattle.sound_values.specs.Fields.{FillsFields}
-use Rattle.sound_bodies.specs.Judged.{delay_range}
-use Rattle.sound_bodies.specs.Sends.{body_sends, branch_sends, stmt_sends}
+use Rattle.tap_base.specs.Interval.{delay_range}
+use Rattle.tap_base.specs.Sends.{body_sends, branch_sends, stmt_sends}
 use Rattle.sound_bodies.proofs.Composed.{AllBranches, AllRun, AlwaysRuns, BranchRuns, all_run, rounds_run, stays}
 use Rattle.sound_bodies.proofs.DeedsOpen as open_
 use Rattle.sound_bodies.proofs.Runs.{Leads, Runs}

@@ -13,7 +13,7 @@ use Rattle.tap_base.specs.declared.system.Process.{Process}
 use Rattle.tap_base.specs.declared.system.System.{System}
 use Rattle.tap_base.specs.declared.tree.Expr.{Expr}
 use Rattle.tap_base.specs.declared.tree.Target.{Target}
-use Rattle.tap_base.specs.Interval.{IsIn, IsWithin}
+use Rattle.tap_base.specs.Interval.{IsIn, IsWithin, delay_range, index_range}
 use Rattle.tap_base.specs.Lists.{Each, EachBoth}
 use Rattle.tap_base.specs.Parts.{Deed, assign, choose, send, start, stop, test, turns}
 use Rattle.tap_base.specs.Ranges.{AreAllIn}
@@ -24,11 +24,10 @@ use Rattle.tap_exec.specs.Filling.{wire_fields}
 use Rattle.tap_exec.specs.Value.{value_of}
 use Rattle.abstract_run.specs.Messages.{Receives}
 use Rattle.abstract_run.specs.Semantics.{ProcessSemantics, Semantics, action_semantics, guard_semantics, messages_of, process_semantics, semantics_of}
-use Rattle.sound_values.specs.Indexes.{index_range}
 use Rattle.sound_values.specs.Sound.{IsJudged}
 use Rattle.sound_values.proofs.FieldValues.{given_fit}
 use Rattle.sound_values.proofs.Values.{sound}
-use Rattle.sound_bodies.specs.Judged.{delay_range, FitsRange, IsJudgedDeed, IsJudgedTarget}
+use Rattle.sound_bodies.specs.Judged.{FitsRange, IsJudgedDeed, IsJudgedTarget}
 use Rattle.sound_bodies.proofs.Bodies.{DeedRuns}
 use Rattle.sound_bodies.proofs.Simple.{Aims, Gives, IsValued, Valuing}
 

@@ -6,7 +6,7 @@ use Rattle.tap_base.specs.declared.tree.Stmt.{Stmt, the_lemmas}
 use Rattle.tap_base.specs.declared.tree.Stmt.TheVariants as stmt
 use Rattle.tap_base.specs.declared.tree.Target.{Target}
 use Rattle.tap_base.specs.Parts.{deeds, branch_deeds, assign, choose, send, start, stop, test, joined as deeds_joined, turns as turns_}
-use Rattle.sound_bodies.specs.Sends.{branch_sends, body_sends, stmt_sends}
+use Rattle.tap_base.specs.Sends.{branch_sends, body_sends, stmt_sends}
 
 pub deeds_skip : deeds (stmt.Skip) ≡ []
 deeds_skip = search (rules, the_lemmas)

@@ -28,7 +28,7 @@ use Rattle.tap_exec.proofs.StmtOpen as exec_
 use Rattle.abstract_run.specs.Safe.{IsFitRunning}
 use Rattle.abstract_run.specs.Semantics.{ProcessSemantics, Semantics}
 use Rattle.sound_bodies.specs.GoOn.{GoesOn}
-use Rattle.sound_bodies.specs.Sends.{stmt_sends}
+use Rattle.tap_base.specs.Sends.{stmt_sends}
 use Rattle.sound_bodies.proofs.Bodies.{DeedRuns, Sends, stmt_holds}
 use Rattle.sound_bodies.proofs.DeedsOpen as open_
 use Rattle.sound_bodies.proofs.GoOn.{AlwaysCan, BranchCan, CanRun, all_can, can_run, rounds_can, with}

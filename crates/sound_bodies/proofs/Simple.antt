@@ -9,7 +9,7 @@ use Rattle.tap_base.specs.declared.place.Range.{Range}
 use Rattle.tap_base.specs.declared.tree.Expr.{Expr}
 use Rattle.tap_base.specs.declared.tree.Target.{Target}
 use Rattle.tap_base.specs.declared.wire.WireField.{WireField}
-use Rattle.tap_base.specs.Interval.{IsIn}
+use Rattle.tap_base.specs.Interval.{IsIn, delay_range, index_range}
 use Rattle.tap_base.specs.Lists.{Each, EachBoth}
 use Rattle.tap_base.specs.Option.{◌>>=◌, each, provided}
 use Rattle.tap_base.specs.Ranges.{AreAllIn, ranges_of, values_of}
@@ -26,8 +26,6 @@ use Rattle.abstract_run.specs.Messages.{Receives}
 use Rattle.abstract_run.specs.Safe.{IsFitRunning}
 use Rattle.abstract_run.specs.Semantics.{ProcessSemantics, Semantics}
 use Rattle.sound_values.specs.Fields.{FillsFields}
-use Rattle.sound_values.specs.Indexes.{index_range}
-use Rattle.sound_bodies.specs.Judged.{delay_range}
 use Rattle.sound_bodies.proofs.Runs.{Leads, Runs}
 
 -- what each expression is

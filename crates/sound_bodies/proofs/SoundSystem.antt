@@ -30,7 +30,7 @@ use Rattle.sound_values.proofs.Values.{sound}
 use Rattle.sound_bodies.specs.Bodies.{BodiesAreSound}
 use Rattle.sound_bodies.specs.GoOn.{BodiesGoOn, GoesOn}
 use Rattle.sound_bodies.specs.Judged.{IsJudgedAction, IsJudgedGuard, IsJudgedSystem}
-use Rattle.sound_bodies.specs.Sends.{body_sends}
+use Rattle.tap_base.specs.Sends.{body_sends}
 use Rattle.sound_bodies.proofs.Bodies.{DeedRuns, body_runs}
 use Rattle.sound_bodies.proofs.Deeds.{all_run}
 use Rattle.sound_bodies.proofs.Going.{body_goes_on}
@@ -72,7 +72,7 @@ mapped_from : {A B : Type 0} (f : A → B) (xs : List A) (k : ℕ) (y : B) → s
 mapped_from f xs k y h = mapped f (slice_get xs k) y (sym (slice_get-map f xs k) ∙ h)
 
 -- What is so of each action of a system is so of each action of its semantics.
-each_action : (system : System) (P : ℕ → ProcessSemantics → ActionSemantics → Type 0)
+pub each_action : (system : System) (P : ℕ → ProcessSemantics → ActionSemantics → Type 0)
     → ((p a : ℕ) (process : Process) (action : Action) → slice_get system.processes p ≡ Some process → slice_get process.actions a ≡ Some action
     → P p (process_semantics (messages_of system) process) (action_semantics (messages_of system) action))
     → (p a : ℕ) (process : ProcessSemantics) (action : ActionSemantics) → slice_get (semantics_of system).processes p ≡ Some process → slice_get process.actions a ≡ Some action → P p process action

@@ -1,5 +1,5 @@
 -- Where the statements of a system are judged right: every value is within the range of what it is written to.
-use Rattle.std.specs.Prelude.{◌-ℤ◌, ◌^◌, ◌≤◌, pos, IfSome, List, slice_get}
+use Rattle.std.specs.Prelude.{◌≤◌, IfSome, List, slice_get}
 use Rattle.tap_base.specs.declared.place.Range.{Range}
 use Rattle.tap_base.specs.declared.system.Action.{Action}
 use Rattle.tap_base.specs.declared.system.Guard.{Guard}
@@ -9,13 +9,12 @@ use Rattle.tap_base.specs.declared.system.Process.{Process}
 use Rattle.tap_base.specs.declared.system.System.{System}
 use Rattle.tap_base.specs.declared.tree.Expr.{Expr}
 use Rattle.tap_base.specs.declared.tree.Target.{Target}
-use Rattle.tap_base.specs.Interval.{IsWithin, from_to}
+use Rattle.tap_base.specs.Interval.{IsWithin, delay_range, index_range}
 use Rattle.tap_base.specs.Lists.{Each, EachBoth}
 use Rattle.tap_base.specs.Parts.{Deed, all_deeds, assign, choose, send, start, stop, test, turns}
 use Rattle.tap_base.specs.Scope.{Scope, fields_of, free_fields, scope_of, value_range}
-use Rattle.sound_values.specs.Indexes.{index_range}
+use Rattle.tap_base.specs.Sends.{body_sends}
 use Rattle.sound_values.specs.Sound.{IsJudged}
-use Rattle.sound_bodies.specs.Sends.{body_sends}
 
 -- ---- statements
 
@@ -24,10 +23,6 @@ pub record FitsRange (s : Scope) (e : Expr) (wanted : Range) : Type 0 where
   pub range : Range
   pub judged : IsJudged s e range
   pub within : IsWithin range wanted
-
--- a delay in 32 bits
-abbrev pub delay_range : Range
-delay_range = from_to (pos 0) (pos (2 ^ 32) -ℤ pos 1)
 
 abbrev pub IsJudgedTarget : Scope → Target → Type 0
 IsJudgedTarget s t = IfSome t.index (λ e. FitsRange s e (index_range t.length))

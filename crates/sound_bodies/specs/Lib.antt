@@ -1,4 +1,3 @@
 pub mod Bodies
 pub mod GoOn
 pub mod Judged
-pub mod Sends

@@ -16,7 +16,7 @@ use Rattle.tap_base.specs.Scope.{Scope}
 use Rattle.tap_exec.specs.Computed.{applied, computed, negated, element as element_computed}
 use Rattle.tap_exec.specs.Value.{at, element, is_true, operation, truth, value_of}
 use Rattle.sound_values.specs.Indexes.{seen, seen_step}
-use Rattle.sound_values.proofs.ExprInduction.{expr}
+use Rattle.tap_base.proofs.ExprInduction.{expr}
 
 abbrev pub interval_in : Scope → Expr → Option Range
 interval_in s e = interval_of e s.cells s.inputs s.fields

@@ -1,5 +1,4 @@
 pub mod Corners
-pub mod ExprInduction
 pub mod ExprOpen
 pub mod FieldValues
 pub mod Operations

@@ -10,7 +10,7 @@ use Rattle.tap_base.specs.declared.place.Range.{Range}
 use Rattle.tap_base.specs.declared.tree.Op.{Op}
 use Rattle.tap_base.specs.declared.tree.Expr.{Expr}
 use Rattle.tap_base.specs.declared.tree.ExprKind.TheVariants as kind
-use Rattle.tap_base.specs.Interval.{IsIn, IsWithin, bounded, fits, from_to, negation_range, operation_range, truth_range}
+use Rattle.tap_base.specs.Interval.{IsIn, IsWithin, bounded, fits, from_to, index_range, negation_range, operation_range, truth_range}
 use Rattle.tap_base.specs.Lists.{Each}
 use Rattle.tap_base.specs.Option.{◌>>=◌, provided}
 use Rattle.tap_base.specs.Parts.{leaves}
@@ -21,9 +21,9 @@ use Rattle.tap_base.proofs.ListFacts.{both_at, each_split, element_at}
 use Rattle.tap_base.proofs.OptionFacts.{bound, mapped}
 use Rattle.tap_exec.specs.Computed.{applied, computed, negated, element as element_computed}
 use Rattle.tap_exec.specs.Value.{at, element, is_true, operation, truth, value_of}
-use Rattle.sound_values.specs.Indexes.{IsWithinArray, Seen, index_range, interval_by, seen}
+use Rattle.sound_values.specs.Indexes.{IsWithinArray, Seen, interval_by, seen}
 use Rattle.sound_values.specs.Sound.{AreRead, IsJudged, IsSound}
-use Rattle.sound_values.proofs.ExprInduction.{expr, of_expr}
+use Rattle.tap_base.proofs.ExprInduction.{expr, of_expr}
 use Rattle.sound_values.proofs.ExprOpen as open_
 use Rattle.sound_values.proofs.ExprOpen.{interval_in, operation_interval}
 use Rattle.sound_values.proofs.Operations.{operation_does, negation_does, not_does}

@@ -1,11 +1,11 @@
 -- The indexes in an expression, by their intervals.
-use Rattle.std.specs.Prelude.{ℕ, pos, ◌-ℤ◌, IfSome, List, [], ◌∷◌, ◌++◌, Option}
+use Rattle.std.specs.Prelude.{ℕ, IfSome, List, [], ◌∷◌, ◌++◌, Option}
 use Rattle.tap_base.specs.declared.place.Range.{Range}
 use Rattle.tap_base.specs.declared.tree.Expr.{Expr}
 use Rattle.tap_base.specs.declared.tree.ExprKind.{map-ExprKind}
 use Rattle.tap_base.specs.declared.tree.ExprKind.TheFolds.{fold-Expr}
 use Rattle.tap_base.specs.declared.tree.ExprKind.TheOpen.{ExprKind-F}
-use Rattle.tap_base.specs.Interval.{Interval, IsWithin, from_to, interval_step}
+use Rattle.tap_base.specs.Interval.{Interval, IsWithin, index_range, interval_step}
 use Rattle.tap_base.specs.Lists.{Each}
 use Rattle.tap_base.specs.Scope.{Scope}
 
@@ -40,10 +40,6 @@ abbrev pub seen : Expr → Seen
 seen = fold-Expr Seen Seen seen_step (λ e. e.kind)
 
 -- ---- indexes
-
--- the numbers of so many elements, counted from 0
-abbrev pub index_range : ℕ → Range
-index_range count = from_to (pos 0) (pos count -ℤ pos 1)
 
 -- where the index has an interval, this lies within the array
 abbrev pub IsWithinArray : Index → Type 0

@@ -1,4 +1,6 @@
 pub mod DistinctFacts
+pub mod Ends
+pub mod ExprInduction
 pub mod GatheredFacts
 pub mod ListFacts
 pub mod LoopFacts

@@ -1,5 +1,5 @@
 -- The interval of an expression: a range that its value lies in, by the ranges of what it reads.
-use Rattle.std.specs.Prelude.{◌-◌, ◌^◌, ℤ, pos, negsuc, ◌+ℤ◌, ◌-ℤ◌, ◌*ℤ◌, ◌≤ℤ◌, neg_ℤ, Bool, ◌&&◌, if◌then◌else◌, List, Option, Some, None, option_and_then, slice_get, int_lt, int_le, max, min, unsigned_abs}
+use Rattle.std.specs.Prelude.{ℕ, ◌-◌, ◌^◌, ℤ, pos, negsuc, ◌+ℤ◌, ◌-ℤ◌, ◌*ℤ◌, ◌≤ℤ◌, neg_ℤ, Bool, ◌&&◌, if◌then◌else◌, List, Option, Some, None, option_and_then, slice_get, int_lt, int_le, max, min, unsigned_abs}
 use Rattle.std.specs.Int.{int_div_euclid, int_min, int_max}
 use Rattle.std.specs.Option.{option_map}
 use Rattle.tap_base.specs.declared.place.Range.{Range}
@@ -35,6 +35,14 @@ field_range f = range_by f.fixed where
   range_by : Option ℤ → Range
   range_by None = from_to (pos 0) (pos (2 ^ f.width) -ℤ pos 1)
   range_by (Some v) = from_to v v
+
+-- the places of an array of so many elements, counted from 0
+abbrev pub index_range : ℕ → Range
+index_range length = from_to (pos 0) (pos length -ℤ pos 1)
+
+-- the delays of a timer, in milliseconds: all that 32 bits can hold
+abbrev pub delay_range : Range
+delay_range = from_to (pos 0) (pos (2 ^ 32) -ℤ pos 1)
 
 abbrev pub has_zero : Range → Bool
 has_zero a = int_le a.lo (pos 0) && int_le (pos 0) a.hi

@@ -12,6 +12,8 @@ pub mod Receivers
 pub mod Resolved
 pub mod Roots
 pub mod Scope
+pub mod Sends
 pub mod Truths
 pub mod Wires
 pub mod formers
+pub mod inner

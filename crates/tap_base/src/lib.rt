@@ -9,6 +9,7 @@ mod join;
 mod list;
 mod memory;
 mod place;
+mod range;
 mod refusal;
 mod system;
 mod text;

@@ -1,7 +1,6 @@
 -- Statements take their choices from the front: by one induction over statements and branches.
-use Rattle.std.proofs.Common.{◌≡◌, ◌+◌, ◌&&◌, ℕ, zero, suc, ℤ, pos, int_le, int_lt, unsigned_abs, ◌^◌, Bool, true, false, List, [], ◌∷◌, ◌++◌, map, refl, ap, sym, subst, ◌∙◌, slice_get, slice_set, Option, Some, None, append_assoc, if◌then◌else◌}
+use Rattle.std.proofs.Common.{◌≡◌, ◌+◌, ℕ, zero, suc, ℤ, pos, unsigned_abs, Bool, true, false, List, [], ◌∷◌, ◌++◌, map, refl, ap, sym, subst, ◌∙◌, slice_get, slice_set, Option, Some, None, append_assoc, if◌then◌else◌}
 use Rattle.std.specs.List.{list_any}
-use Rattle.std.specs.Option.{option_map}
 use Rattle.std.specs.Ordering.{int_eq}
 use Rattle.tap_base.specs.declared.tree.Branch.{Branch}
 use Rattle.tap_base.specs.declared.tree.Expr.{Expr}
@@ -10,19 +9,16 @@ use Rattle.tap_base.specs.declared.tree.Stmt.TheVariants as stmt
 use Rattle.tap_base.specs.declared.tree.Target.{Target}
 use Rattle.tap_base.specs.declared.wire.WireField.{WireField}
 use Rattle.tap_base.specs.Lists.{Each}
-use Rattle.tap_base.specs.Option.{◌>>=◌, provided, each}
+use Rattle.tap_base.specs.Option.{◌>>=◌, provided}
 use Rattle.tap_base.specs.Ranges.{values_of}
 use Rattle.tap_base.proofs.ListFacts.{each_at, each_map, each_of}
 use Rattle.tap_exec.specs.declared.running.Running.{Running}
 use Rattle.tap_exec.specs.declared.running.TimerState.TheVariants as timer
-use Rattle.tap_exec.specs.Execution.{Alternative, Doing, alternative, assigned, chosen, do_all, exec, exec_all, one_runs, open_from, place_in, round, rounds, sent, started, takes, value_in, with_timer}
-use Rattle.tap_exec.specs.Filling.{filled}
+use Rattle.tap_exec.specs.Execution.{Alternative, Doing, alternative, assigned, chosen, do_all, exec, exec_all, one_runs, open_from, place_in, round, rounds, sent, started, takes, with_timer}
 use Rattle.tap_exec.specs.Front.{ChoicesAreFront, TakesFromFront}
+use Rattle.tap_exec.proofs.Quiet.{Quiet, assigned_quiet, quiet_leaves, sent_quiet, started_quiet, with_choices}
 use Rattle.tap_exec.proofs.StmtInduction.{of_stmt}
 use Rattle.tap_exec.proofs.StmtOpen as open_
-
-abbrev with_choices : Running → List ℤ → Running
-with_choices r rest = record r { choices = rest }
 
 -- wherever it comes to its end, it took its choices from the front
 abbrev Fronts : Doing → Type 0
@@ -36,22 +32,10 @@ opened c d e h before after is =
 
 -- ---- without choices
 
--- it does the same whatever choices there are, and leaves them
-abbrev Quiet : Doing → Type 0
-Quiet d = (r : Running) (rest : List ℤ) → d (with_choices r rest) ≡ option_map (λ t. with_choices t rest) (d r)
-
-some_map : (o : Option Running) (rest : List ℤ) (t : Running) → o ≡ Some t → option_map (λ u. with_choices u rest) o ≡ Some (with_choices t rest)
-some_map o rest t e = ap (option_map (λ u. with_choices u rest)) e
-
 quiet_fronts : (d : Doing) → Quiet d → Fronts d
 quiet_fronts d q before after is =
-    let left : Some after ≡ Some (with_choices after before.choices) = sym is ∙ q before before.choices ∙ some_map (d before) before.choices after is in
-    let same : after ≡ with_choices after before.choices = cc in
-    record {
-      taken = [];
-      front = sym (ap (λ (r : Running). r.choices) same);
-      same = λ rest. q before rest ∙ some_map (d before) rest after is;
-    }
+    let x = quiet_leaves d q before after is in
+    record { taken = []; front = sym x.left; same = x.same }
 
 -- ---- one after the other
 
@@ -195,12 +179,6 @@ rounds_front bs h (suc n) = more_rounds bs h n (rounds_front bs h n)
 
 -- ---- statements
 
--- a step that does not read the choices, and one behind it that leaves them
-map_bind : {A : Type 0} (o : Option A) (f g : A → Option Running) (rest : List ℤ) → ((a : A) → g a ≡ option_map (λ t. with_choices t rest) (f a))
-    → (o >>= g) ≡ option_map (λ t. with_choices t rest) (o >>= f)
-map_bind None f g rest h = refl
-map_bind (Some a) f g rest h = h a
-
 module _ (value : Expr → List ℤ → List ℤ → List ℤ → Option ℤ) (messages : List (List WireField)) (inputs received : List ℤ) where
   abbrev does : Stmt → Doing
   does = exec value messages inputs received
@@ -217,15 +195,10 @@ module _ (value : Expr → List ℤ → List ℤ → List ℤ → Option ℤ) (m
   skip_fronts : StmtFronts stmt.Skip
   skip_fronts = opened (does stmt.Skip) Some (λ r. open_.exec_skip value messages inputs received r) (quiet_fronts Some (λ r rest. refl))
 
-  assigned_quiet : (targets : List Target) (values : List Expr) → Quiet (assigned value messages inputs received targets values)
-  assigned_quiet targets values r rest =
-      map_bind (each (place_in value messages inputs received r) targets) _ _ rest (λ places.
-      map_bind (each (value_in value messages inputs received r) values) _ _ rest (λ numbers. refl))
-
   assign_fronts : (targets : List Target) (values : List Expr) → StmtFronts (stmt.Assign targets values)
   assign_fronts targets values =
       let d = assigned value messages inputs received targets values in
-      opened (does (stmt.Assign targets values)) d (λ r. open_.exec_assign value messages inputs received r targets values) (quiet_fronts d (assigned_quiet targets values))
+      opened (does (stmt.Assign targets values)) d (λ r. open_.exec_assign value messages inputs received r targets values) (quiet_fronts d (assigned_quiet value messages inputs received targets values))
 
   chosen_fronts : (target : Target) → Fronts (chosen value messages inputs received target)
   chosen_fronts target before after is = by_place (place_in value messages inputs received before target) refl is where
@@ -250,26 +223,15 @@ module _ (value : Expr → List ℤ → List ℤ → List ℤ → Option ℤ) (m
   choose_fronts : (target : Target) → StmtFronts (stmt.Choose target)
   choose_fronts target = opened (does (stmt.Choose target)) (chosen value messages inputs received target) (λ r. open_.exec_choose value messages inputs received r target) (chosen_fronts target)
 
-  sent_quiet : (m : ℕ) (given : List Expr) (q : ℕ) → Quiet (sent value messages inputs received m given q)
-  sent_quiet m given q r rest =
-      map_bind (slice_get messages m) _ _ rest (λ fields.
-      map_bind (each (value_in value messages inputs received r) given) _ _ rest (λ numbers.
-      map_bind (filled fields numbers) _ _ rest (λ values. refl)))
-
   send_fronts : (m : ℕ) (given : List Expr) (q : ℕ) → StmtFronts (stmt.Send m given q)
   send_fronts m given q =
       let d = sent value messages inputs received m given q in
-      opened (does (stmt.Send m given q)) d (λ r. open_.exec_send value messages inputs received r m given q) (quiet_fronts d (sent_quiet m given q))
-
-  started_quiet : (t : ℕ) (delay : Expr) → Quiet (started value messages inputs received t delay)
-  started_quiet t delay r rest =
-      map_bind (value_in value messages inputs received r delay) _ _ rest (λ d.
-      map_bind (provided (int_le (pos 0) d && int_lt d (pos (2 ^ 32))) (unsigned_abs d)) _ _ rest (λ wait. refl))
+      opened (does (stmt.Send m given q)) d (λ r. open_.exec_send value messages inputs received r m given q) (quiet_fronts d (sent_quiet value messages inputs received m given q))
 
   start_fronts : (t : ℕ) (delay : Expr) → StmtFronts (stmt.Start t delay)
   start_fronts t delay =
       let d = started value messages inputs received t delay in
-      opened (does (stmt.Start t delay)) d (λ r. open_.exec_start value messages inputs received r t delay) (quiet_fronts d (started_quiet t delay))
+      opened (does (stmt.Start t delay)) d (λ r. open_.exec_start value messages inputs received r t delay) (quiet_fronts d (started_quiet value messages inputs received t delay))
 
   stop_fronts : (t : ℕ) → StmtFronts (stmt.Stop t)
   stop_fronts t =

@@ -1,4 +1,6 @@
 pub mod Alternatives
 pub mod Fronts
+pub mod Lefts
+pub mod Quiet
 pub mod StmtInduction
 pub mod StmtOpen

@@ -1,7 +1,9 @@
+pub mod Choosing
 pub mod Computed
 pub mod Execution
 pub mod Filling
 pub mod Front
+pub mod Left
 pub mod Value
 pub mod Worked
 pub mod inner

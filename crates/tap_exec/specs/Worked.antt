@@ -1,7 +1,8 @@
 -- What statements do, worked on small cases.
-use Rattle.std.specs.Prelude.{◌≡◌, ℕ, ℤ, pos, List, [], ◌∷◌, Some, None}
+use Rattle.std.specs.Prelude.{◌≡◌, ℕ, ℤ, pos, true, false, List, [], ◌∷◌, Some, None}
 use Rattle.tap_base.specs.declared.place.Place.{Place}
 use Rattle.tap_base.specs.declared.place.Range.{Range}
+use Rattle.tap_base.specs.declared.tree.Branch.{Branch}
 use Rattle.tap_base.specs.declared.tree.Expr.{Expr}
 use Rattle.tap_base.specs.declared.tree.ExprKind.TheVariants as kind
 use Rattle.tap_base.specs.declared.tree.Target.{Target}
@@ -9,6 +10,7 @@ use Rattle.tap_base.specs.declared.wire.WireField.{WireField}
 use Rattle.tap_base.specs.declared.tree.Stmt.{Stmt}
 use Rattle.tap_base.specs.declared.tree.Stmt.TheVariants as stmt
 use Rattle.tap_exec.specs.declared.running.Running.{Running}
+use Rattle.tap_exec.specs.Choosing.{body_chooses}
 use Rattle.tap_exec.specs.Execution.{execution}
 
 -- ---- writing shorter
@@ -63,12 +65,20 @@ ChoicesAreTaken = execution [] [] [] choose_twice (running (pos 0 ∷ []) (pos 7
 abbrev pub ChoicesAreInRange : Type 0
 ChoicesAreInRange = execution [] [] [] choose_twice (running (pos 0 ∷ []) (pos 7 ∷ pos 10 ∷ [])) ≡ None
 
+-- `true -> x := n`
+abbrev pub setting : ℕ → Branch
+setting n = record { guard = number 1; body = stmt.Assign (to_cell 0 ∷ []) (number n ∷ []) ∷ [] }
+
+abbrev pub set_either : List Stmt
+set_either = stmt.If (setting 1 ∷ setting 2 ∷ []) ∷ []
+
 -- `if true -> x := 1 [] true -> x := 2 fi` takes the number of its branch.
 abbrev pub BranchesAreChosen : Type 0
-BranchesAreChosen =
-    execution [] [] [] (stmt.If (record { guard = number 1; body = stmt.Assign (to_cell 0 ∷ []) (number 1 ∷ []) ∷ [] }
-    ∷ record { guard = number 1; body = stmt.Assign (to_cell 0 ∷ []) (number 2 ∷ []) ∷ [] } ∷ []) ∷ []) (running (pos 0 ∷ []) (pos 1 ∷ []))
-    ≡ Some (running (pos 2 ∷ []) [])
+BranchesAreChosen = execution [] [] [] set_either (running (pos 0 ∷ []) (pos 1 ∷ [])) ≡ Some (running (pos 2 ∷ []) [])
+
+-- It asks for a choice, and so does the loop that chooses. `do 2 times true -> x := 1 od` asks for none.
+abbrev pub ChoicesAreAskedFor : Type 0
+ChoicesAreAskedFor = (body_chooses set_either ≡ true) × (body_chooses choose_twice ≡ true) × (body_chooses (stmt.Loop 2 (setting 1 ∷ []) ∷ []) ≡ false)
 
 -- ---- sends
 

@@ -3,6 +3,7 @@
 
 mod assign;
 mod choices;
+mod choosing;
 mod evaluate;
 mod execute;
 mod fields;
@@ -10,9 +11,10 @@ mod laws;
 mod running;
 mod worked;
 
+pub use choosing::chooses;
 pub use evaluate::try_eval;
 pub use execute::exec_all;
 pub use fields::fill;
-pub use laws::choices_are_front;
+pub use laws::{choices_are_front, choices_are_left};
 pub use running::{Outgoing, Running, TimerState};
 pub use worked::statements_are_worked;

@@ -1,9 +1,13 @@
 mod LeftActions
 mod LeftExprs
 mod LeftLists
+pub mod Mislaid
 pub mod Named
 mod NamesAreWords
+pub mod OneLayout
 pub mod OneOffence
+pub mod ResolvedWires
+pub mod RunTexts
 pub mod Runs
 mod TokenWords
 pub mod TreesRead

@@ -10,14 +10,17 @@ use Rattle.tap_lexer.specs.Tokens.{LexesTo, Outcome, SpellsTokens}
 use Rattle.tap_lexer.proofs.One.{one_text}
 use Rattle.tap_parser.proofs.TextEnds.{one_text_end}
 use Rattle.tap_parser.proofs.TextOneTree.{one_text as one_tree}
-use Rattle.small_limits.specs.Small.{IsSmall}
 use Rattle.tap_base.specs.ListWords.{first}
 use Rattle.tap_types.specs.Offences.{offences_of}
 use Rattle.tap_types.specs.Systems.{system_of}
+use Rattle.width_check.specs.Offences.{offences}
+use Rattle.tap_base.specs.Wires.{wire_of}
+use Rattle.tap_front.specs.Layouts.{IsLaidOut}
+use Rattle.tap_front.proofs.OneLayout.{never_mislaid, one_mislaid}
 use Rattle.tap_front.specs.Accepting.{Accepted, IsReadAs, ResolvesTo, longest_text}
 use Rattle.tap_front.specs.Laws.{NeverRefused, OneOffence, OneSystemOfText, OneTreeOfText}
 use Rattle.tap_front.specs.Lines.{code_word, offence_code}
-use Rattle.tap_front.specs.Offences.{Misnames, Misspells, Offends, misnamed, misspelled, too_long, unlexed, unnamed, unparsed, unrunnable}
+use Rattle.tap_front.specs.Offences.{Misnames, Misspells, Offends, misfit, mislaid, misnamed, misspelled, too_long, unlexed, unnamed, unparsed}
 use Rattle.tap_front.specs.declared.offence.Offence.{Offence}
 use Rattle.tap_front.specs.declared.offence.Offence.TheVariants.{Coded}
 use Rattle.tap_base.specs.declared.system.System.{System}
@@ -84,14 +87,19 @@ resolved_none tree other r e h f = none-some r (sym (ap first (sym (ap offences_
 resolved_same : (tree other : Ast) (s t : System) → tree ≡ other → system_of tree ≡ Some s → system_of other ≡ Some t → s ≡ t
 resolved_same tree other s t e h k = same_Some s t (sym h ∙ ap system_of e ∙ k)
 
--- a tree that resolves to a system that can be run so far has no offence
-never_misnamed : (tree other : Ast) (s : System) (o : Offence) → tree ≡ other → ResolvesTo tree s → IsSmall s → Misnames other o → ⊥
-never_misnamed tree other s o e h small (unnamed {r} f) = resolved_none tree other r e h.faultless f
-never_misnamed tree other s o e h small (unrunnable {system} k large) = large (subst IsSmall (resolved_same tree other s system e h.named k.named) small)
+-- systems that are one: what has no offence has no first one
+cleared_none : (s t : System) (r : Refusal) → s ≡ t → offences s ≡ [] → first (offences t) ≡ Some r → ⊥
+cleared_none s t r e h f = none-some r (sym (ap first (sym (ap offences e) ∙ h)) ∙ f)
+
+-- a tree that resolves to a system that is checked and is laid out has no offence
+never_misnamed : (tree other : Ast) (s : System) (o : Offence) → tree ≡ other → ResolvesTo tree s → offences s ≡ [] → IsLaidOut (wire_of s) → Misnames other o → ⊥
+never_misnamed tree other s o e h clear laid (unnamed {r} f) = resolved_none tree other r e h.faultless f
+never_misnamed tree other s o e h clear laid (misfit {r} {system} k f) = cleared_none s system r (resolved_same tree other s system e h.named k.named) clear f
+never_misnamed tree other s o e h clear laid (mislaid {system} k none m) = never_mislaid s system o (resolved_same tree other s system e h.named k.named) laid m
 
 accepted_whole : (text : List ℕ) (system : System) (o : Offence) → Accepted text system → Offends text o → ⊥
 accepted_whole text system o a (misspelled {r} m) = never_misspelled text a.tree r a.read m
-accepted_whole text system o a (misnamed {tree} read m) = never_misnamed a.tree tree system o (one_tree_of_text text a.tree tree a.read read) a.resolved a.small m
+accepted_whole text system o a (misnamed {tree} read m) = never_misnamed a.tree tree system o (one_tree_of_text text a.tree tree a.read read) a.resolved a.clear a.laid_out m
 
 pub never_refused : NeverRefused
 never_refused = (never_misspelled, accepted_whole)
@@ -99,9 +107,18 @@ never_refused = (never_misspelled, accepted_whole)
 -- the first offences of one tree are one
 one_misnaming : (tree other : Ast) (o p : Offence) → tree ≡ other → Misnames tree o → Misnames other p → o ≡ p
 one_misnaming tree other o p e (unnamed {r} f) (unnamed {r = s} g) = ap Coded (same_Some r s (sym f ∙ ap first (ap offences_of e) ∙ g))
-one_misnaming tree other o p e (unnamed {r} f) (unrunnable k large) = absurd (resolved_none other tree r (sym e) k.faultless f)
-one_misnaming tree other o p e (unrunnable k large) (unnamed {r} f) = absurd (resolved_none tree other r e k.faultless f)
-one_misnaming tree other o p e (unrunnable k large) (unrunnable l other_large) = refl
+one_misnaming tree other o p e (unnamed {r} f) (misfit k g) = absurd (resolved_none other tree r (sym e) k.faultless f)
+one_misnaming tree other o p e (unnamed {r} f) (mislaid k none m) = absurd (resolved_none other tree r (sym e) k.faultless f)
+one_misnaming tree other o p e (misfit k g) (unnamed {r} f) = absurd (resolved_none tree other r e k.faultless f)
+one_misnaming tree other o p e (misfit {r} {system = s} k g) (misfit {r = q} {system = t} l f) =
+    ap Coded (same_Some r q (sym g ∙ ap first (ap offences (resolved_same tree other s t e k.named l.named)) ∙ f))
+one_misnaming tree other o p e (misfit {r} {system = s} k g) (mislaid {system = t} l none m) =
+    absurd (cleared_none t s r (resolved_same other tree t s (sym e) l.named k.named) none g)
+one_misnaming tree other o p e (mislaid k none m) (unnamed {r} f) = absurd (resolved_none tree other r e k.faultless f)
+one_misnaming tree other o p e (mislaid {system = s} k none m) (misfit {r} {system = t} l g) =
+    absurd (cleared_none s t r (resolved_same tree other s t e k.named l.named) none g)
+one_misnaming tree other o p e (mislaid {system = s} k none m) (mislaid {system = t} l nil n) =
+    one_mislaid s t o p (resolved_same tree other s t e k.named l.named) m n
 
 pub one_offence : OneOffence
 one_offence text o p (misspelled {r} m) (misspelled {r = s} n) = let h = one_misspelling text r s m n in (h.0, λ k. ap Coded (h.1 k))

@@ -1,22 +1,33 @@
--- A system that a text is accepted as can be run.
-use Rattle.std.proofs.Common.{◌<◌, ◌^◌, List, [], ◌∷◌, length, arith}
-use Rattle.tap_base.specs.Lists.{Each}
-use Rattle.tap_base.specs.declared.system.Process.{Process}
+-- A system that a text is accepted as is checked, so it is safe, and runs where it asks for no choice; and its messages are
+-- told apart.
 use Rattle.tap_base.specs.declared.system.System.{System}
-use Rattle.abstract_run.specs.Runnable.{IsRunnable}
-use Rattle.small_limits.specs.Small.{IsSmall, IsWithinLimits}
-use Rattle.small_limits.proofs.SmallNarrow.{small_is_narrow}
-use Rattle.small_limits.proofs.SmallSafe.{small_is_safe}
-use Rattle.tap_front.specs.Laws.{AcceptedRuns}
+use Rattle.tap_base.specs.Wires.{wire_of}
+use Rattle.abstract_run.specs.Messages.{Receives}
+use Rattle.abstract_run.specs.Semantics.{messages_of, semantics_of}
+use Rattle.byte_meaning.specs.Apart.{TellsApart}
+use Rattle.byte_meaning.proofs.Apart.{systems_mean}
+use Rattle.byte_meaning.proofs.Receivers.{wires_say_the_same}
+use Rattle.checked_systems.proofs.Running.{checked_runs}
+use Rattle.checked_systems.proofs.Systems.{checked_sound}
+use Rattle.tap_front.specs.Layouts.{IsLaidOut}
+use Rattle.tap_front.specs.Laws.{AcceptedIsChecked, AcceptedIsSafe, AcceptedRuns, AcceptedSpellingsMean}
+use Rattle.tap_front.proofs.Wholes.{resolved_is_whole}
 
-few_actions : (ps : List Process) → Each IsWithinLimits ps → Each (λ p. length p.actions < 2 ^ 32) ps
-few_actions [] h = tt
-few_actions (p ∷ ps) h = let few = h.0.1 in (omega (arith, few), few_actions ps h.1)
+pub accepted_is_checked : AcceptedIsChecked
+accepted_is_checked text system h = record { resolved = resolved_is_whole text h.tree system h.read h.resolved; clear = h.clear }
 
-small_runs : (system : System) → IsSmall system → IsRunnable system
-small_runs system small =
-    let safe = small_is_safe system small in
-    record { safe = safe.0; unchosen = safe.1; narrow = small_is_narrow system small; counted = few_actions system.processes small.limits.3 }
+pub accepted_is_safe : AcceptedIsSafe
+accepted_is_safe text system h =
+    let sound = (checked_sound system (accepted_is_checked text system h)).1 in
+    record { begins = sound.begins; keeps = sound.keeps; computed = sound.computes }
 
 pub accepted_runs : AcceptedRuns
-accepted_runs text system h = small_runs system h.small
+accepted_runs text system h chooses_none = checked_runs system (accepted_is_checked text system h) chooses_none
+
+-- messages that can be laid out are told apart in what a run asks of the system
+pub told_apart : (system : System) → IsLaidOut (wire_of system) → TellsApart (messages_of system) (Receives (semantics_of system))
+told_apart system h p q m n one other a b =
+    let back = (wires_say_the_same system).1 in h.apart p q m n one other ((back p m q).1 a) ((back p n q).1 b)
+
+pub accepted_spellings_mean : AcceptedSpellingsMean
+accepted_spellings_mean text system h = (systems_mean (semantics_of system) (told_apart system h.laid_out)).0

@@ -11,10 +11,14 @@ use Rattle.tap_names.specs.Refusals.{Faults}
 use Rattle.tap_names.specs.declared.fault.TypeFault.{TypeFault}
 use Rattle.tap_names.specs.declared.fault.TypeFault.TheVariants as names
 use Rattle.tap_types.specs.Offences.{offences_of}
-use Rattle.tap_front.specs.Accepting.{IsReadAs, longest_text}
-use Rattle.tap_front.specs.Offences.{TextReads, TreeReads, misnamed, misspelled, unnamed, unparsed}
+use Rattle.width_check.specs.declared.fault.WidthFault.{WidthFault}
+use Rattle.width_check.specs.declared.fault.WidthFault.TheVariants as widths
+use Rattle.tap_front.specs.Accepting.{IsReadAs, ResolvesTo, longest_text}
+use Rattle.tap_front.specs.Layouts.{Mislays}
+use Rattle.tap_front.specs.Offences.{TextReads, TreeReads, misfit, mislaid, misnamed, misspelled, unnamed, unparsed}
 use Rattle.tap_front.specs.declared.texts.TextFault.{TextFault}
-use Rattle.tap_front.specs.inner.Faults.{unread, unresolved}
+use Rattle.tap_front.specs.declared.texts.TextFault.TheVariants as fault_of_text
+use Rattle.tap_front.specs.inner.Faults.{ChecksTo, LaysOut, unchecked, unread, unresolved}
 
 -- the tree of a text is that of its tokens
 pub reads_tokens : (text : List ℕ) (tokens : List Token) → length text ≤ longest_text → SpellsTokens text tokens → (r : Result Ast ParseFault) → TextAnswers text tokens r → TreeReads text r
@@ -39,3 +43,24 @@ unnamed_text text tree names.NoMemory read h = tt
 pub not_resolved : (text : List ℕ) (tree : Ast) (e : TypeFault) → IsReadAs text tree → Faults (offences_of tree) e → (r : Result System TextFault) → IsErrAnd r (λ k. k ≡ unresolved e) → TextReads text r
 not_resolved text tree e read h (Ok system) q = absurd q
 not_resolved text tree e read h (Err k) q = subst (λ f. TextReads text (Err f)) (sym q) (unnamed_text text tree e read h)
+
+unfit_text : (text : List ℕ) (tree : Ast) (system : System) (e : WidthFault) → IsReadAs text tree → ResolvesTo tree system → ChecksTo system (Err e) → TextReads text (Err (unchecked e))
+unfit_text text tree system (widths.Refused r) read h k = misnamed read (misfit h k)
+unfit_text text tree system widths.NoMemory read h k = tt
+
+-- what resolves to a system that is not checked is not accepted
+pub not_checked : (text : List ℕ) (tree : Ast) (system : System) (e : WidthFault) → IsReadAs text tree → ResolvesTo tree system → ChecksTo system (Err e)
+    → (r : Result System TextFault) → IsErrAnd r (λ k. k ≡ unchecked e) → TextReads text r
+not_checked text tree system e read h k (Ok other) q = absurd q
+not_checked text tree system e read h k (Err f) q = subst (λ z. TextReads text (Err z)) (sym q) (unfit_text text tree system e read h k)
+
+mislaid_text : (text : List ℕ) (tree : Ast) (system checked : System) (e : TextFault) → IsReadAs text tree → ResolvesTo tree system → ChecksTo system (Ok checked)
+    → LaysOut {A = Unit {0}} checked (Err e) → TextReads text (Err e)
+mislaid_text text tree system checked (fault_of_text.Refused o) read h k m = misnamed read (mislaid h k.1 (subst (λ s. Mislays s o) k.0 m))
+mislaid_text text tree system checked fault_of_text.NoMemory read h k m = tt
+
+-- what resolves to a checked system whose messages can't be laid out is not accepted
+pub not_laid_out : (text : List ℕ) (tree : Ast) (system checked : System) (e : TextFault) → IsReadAs text tree → ResolvesTo tree system → ChecksTo system (Ok checked)
+    → LaysOut {A = Unit {0}} checked (Err e) → (r : Result System TextFault) → IsErrAnd r (λ f. f ≡ e) → TextReads text r
+not_laid_out text tree system checked e read h k m (Ok other) q = absurd q
+not_laid_out text tree system checked e read h k m (Err f) q = subst (λ z. TextReads text (Err z)) (sym q) (mislaid_text text tree system checked e read h k m)

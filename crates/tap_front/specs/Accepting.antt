@@ -6,11 +6,13 @@ use Rattle.tap_base.specs.declared.token.Token.{Token}
 use Rattle.tap_lexer.specs.Lexeme.{lexemes}
 use Rattle.tap_base.specs.Lists.{Each, AreDistinct}
 use Rattle.tap_base.specs.LineWords.{IsWord}
-use Rattle.small_limits.specs.Small.{IsSmall}
 use Rattle.tap_parser.specs.Systems.{IsTree}
 use Rattle.tap_lexer.specs.Tokens.{SpellsTokens}
 use Rattle.tap_types.specs.Offences.{offences_of}
 use Rattle.tap_types.specs.Systems.{system_of}
+use Rattle.width_check.specs.Offences.{offences}
+use Rattle.tap_base.specs.Wires.{wire_of}
+use Rattle.tap_front.specs.Layouts.{IsLaidOut}
 
 -- how many bytes the text of a system has at most
 abbrev pub longest_text : ℕ
@@ -28,13 +30,14 @@ pub record ResolvesTo (tree : Ast) (system : System) : Type 0 where
   pub faultless : offences_of tree ≡ []
   pub named : system_of tree ≡ Some system
 
--- The text is accepted as the system: it is read as a tree that resolves to the system, and this is one that can be run so
--- far.
+-- The text is accepted as the system: it is read as a tree that resolves to the system, this has no offence of widths, costs
+-- and sends, and its messages can be laid out.
 pub record Accepted (text : List ℕ) (system : System) : Type 0 where
   pub tree : Ast
   pub read : IsReadAs text tree
   pub resolved : ResolvesTo tree system
-  pub small : IsSmall system
+  pub clear : offences system ≡ []
+  pub laid_out : IsLaidOut (wire_of system)
 
 -- The names of processes tell them apart in the words of a line: each is a word, and of one process alone.
 abbrev pub TellsApart : System → Type 0

@@ -1,12 +1,18 @@
 -- What the definitions of texts promise by themselves.
-use Rattle.std.specs.Prelude.{◌≡◌, ℕ, ◌≤◌, List, length, codes}
+use Rattle.std.specs.Prelude.{◌≡◌, ℕ, ◌≤◌, false, List, length, codes}
 use Rattle.abstract_run.specs.Runnable.{IsRunnable}
+use Rattle.abstract_run.specs.Messages.{Receives}
+use Rattle.abstract_run.specs.Safe.{IsSafe}
+use Rattle.abstract_run.specs.Semantics.{messages_of, semantics_of}
+use Rattle.byte_meaning.specs.Laws.{SpellingsMean}
+use Rattle.tap_exec.specs.Choosing.{system_chooses}
 use Rattle.tap_base.specs.declared.ast.Ast.{Ast}
 use Rattle.tap_base.specs.declared.refusal.Refusal.{Refusal}
 use Rattle.tap_base.specs.declared.system.System.{System}
 use Rattle.tap_printer.specs.Canonical.{canonical}
 use Rattle.tap_printer.specs.PlacesAside.{SameTree}
 use Rattle.tap_base.specs.Resolved.{IsResolved}
+use Rattle.width_check.specs.IsChecked.{IsChecked}
 use Rattle.tap_front.specs.Accepting.{Accepted, IsReadAs, ResolvesTo, TellsApart, longest_text}
 use Rattle.tap_front.specs.Lines.{offence_code}
 use Rattle.tap_front.specs.Offences.{Misspells, Offends}
@@ -37,9 +43,23 @@ PrintedAgain = (text : List ℕ) (tree : Ast) → IsReadAs text tree → length 
 abbrev pub NamesTellApart : Type 0
 NamesTellApart = (text : List ℕ) (system : System) → Accepted text system → TellsApart system
 
--- A system that a text is accepted as can be run without choices.
+-- A system that a text is accepted as is checked: it is resolved, and has no offence of widths, costs and sends.
+abbrev pub AcceptedIsChecked : Type 0
+AcceptedIsChecked = (text : List ℕ) (system : System) → Accepted text system → IsChecked system
+
+-- A system that a text is accepted as is safe: it begins within its ranges, its bodies keep them, and 64-bit numbers
+-- compute it.
+abbrev pub AcceptedIsSafe : Type 0
+AcceptedIsSafe = (text : List ℕ) (system : System) → Accepted text system → IsSafe system
+
+-- A system that a text is accepted as and that asks for no choice can be run without choices.
 abbrev pub AcceptedRuns : Type 0
-AcceptedRuns = (text : List ℕ) (system : System) → Accepted text system → IsRunnable system
+AcceptedRuns = (text : List ℕ) (system : System) → Accepted text system → system_chooses system ≡ false → IsRunnable system
+
+-- In a system that a text is accepted as, the spelling of a message that is received means this message with its values, and
+-- nothing else.
+abbrev pub AcceptedSpellingsMean : Type 0
+AcceptedSpellingsMean = (text : List ℕ) (system : System) → Accepted text system → SpellingsMean (messages_of system) (Receives (semantics_of system))
 
 -- A text is accepted as at most one system.
 abbrev pub OneSystemOfText : Type 0

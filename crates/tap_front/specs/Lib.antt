@@ -1,5 +1,8 @@
+pub mod Acceptance
 pub mod Accepting
 pub mod Laws
+pub mod Layouts
 pub mod Lines
 pub mod Offences
+pub mod Runs
 pub mod inner

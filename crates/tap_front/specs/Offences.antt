@@ -1,5 +1,5 @@
 -- The first offence of a text, and what reading a text answers.
-use Rattle.std.specs.Prelude.{◌≡◌, ℕ, ◌<◌, ◌≤◌, List, length, Some, Ok, Err, Result}
+use Rattle.std.specs.Prelude.{◌≡◌, ℕ, ◌<◌, ◌≤◌, List, [], length, Some, Ok, Err, Result}
 use Rattle.tap_base.specs.declared.ast.Ast.{Ast}
 use Rattle.tap_base.specs.declared.refusal.Refusal.{Refusal}
 use Rattle.tap_base.specs.declared.refusal.RefusalCode.TheVariants as code
@@ -7,16 +7,17 @@ use Rattle.tap_base.specs.declared.system.System.{System}
 use Rattle.tap_base.specs.declared.token.Token.{Token}
 use Rattle.tap_lexer.specs.Bytes.{start}
 use Rattle.tap_expr.specs.ExprText.{refusal}
-use Rattle.small_limits.specs.Small.{IsSmall}
 use Rattle.tap_parser.specs.Systems.{TextOffence}
 use Rattle.tap_lexer.specs.Tokens.{LexesTo, SpellsTokens}
 use Rattle.tap_base.specs.ListWords.{first}
 use Rattle.tap_types.specs.Offences.{offences_of}
+use Rattle.width_check.specs.Offences.{offences}
+use Rattle.tap_front.specs.Layouts.{Mislays}
 use Rattle.tap_expr.specs.declared.fault.ParseFault.{ParseFault}
 use Rattle.tap_expr.specs.declared.fault.ParseFault.TheVariants as unread
 use Rattle.tap_front.specs.Accepting.{Accepted, IsReadAs, ResolvesTo, longest_text}
 use Rattle.tap_front.specs.declared.offence.Offence.{Offence}
-use Rattle.tap_front.specs.declared.offence.Offence.TheVariants.{Coded, Outside}
+use Rattle.tap_front.specs.declared.offence.Offence.TheVariants.{Alike, Coded, Outside}
 use Rattle.tap_front.specs.declared.texts.TextFault.{TextFault}
 use Rattle.tap_front.specs.declared.texts.TextFault.TheVariants as fault
 
@@ -27,11 +28,12 @@ pub data Misspells (text : List ℕ) : Refusal → Type 0 where
   unlexed : {r : Refusal} → length text ≤ longest_text → LexesTo text (Err r) → Misspells text r
   unparsed : {r : Refusal} {tokens : List Token} → length text ≤ longest_text → SpellsTokens text tokens → TextOffence text tokens r → Misspells text r
 
--- The first offence of a tree: the first of names, kinds and limits; else that the system which it resolves to is none that
--- can be run so far.
+-- The first offence of a tree: the first of names, kinds and limits; else, of the system that it resolves to, the first of
+-- widths, costs and sends; else the first of its messages as they are laid out.
 pub data Misnames (tree : Ast) : Offence → Type 0 where
   unnamed : {r : Refusal} → first (offences_of tree) ≡ Some r → Misnames tree (Coded r)
-  unrunnable : {system : System} → ResolvesTo tree system → (IsSmall system → ⊥) → Misnames tree Outside
+  misfit : {r : Refusal} {system : System} → ResolvesTo tree system → first (offences system) ≡ Some r → Misnames tree (Coded r)
+  mislaid : {o : Offence} {system : System} → ResolvesTo tree system → offences system ≡ [] → Mislays system o → Misnames tree o
 
 -- The first offence of a text: the one that keeps it from being read as a tree; else that of the tree that it is read as.
 pub data Offends (text : List ℕ) : Offence → Type 0 where
@@ -41,6 +43,7 @@ pub data Offends (text : List ℕ) : Offence → Type 0 where
 -- an offence that keeps a text from being read as a tree
 abbrev pub IsMisspelling : List ℕ → Offence → Type 0
 IsMisspelling text (Coded r) = Misspells text r
+IsMisspelling text (Alike place first second) = ⊥
 IsMisspelling text Outside = ⊥
 
 -- what reading a text answers: the tree that it is read as, or its first offence;

@@ -1,6 +1,6 @@
 //! What the definitions of texts promise by themselves.
 
-ghost use Rattle.tap_front.specs.Laws.{AcceptedRuns, NamesTellApart, NeverRefused, OneOffence, OneSystemOfText, OneTreeOfText, PrintedAgain, ResolvedIsWhole};
+ghost use Rattle.tap_front.specs.Laws.{AcceptedIsChecked, AcceptedIsSafe, AcceptedRuns, AcceptedSpellingsMean, NamesTellApart, NeverRefused, OneOffence, OneSystemOfText, OneTreeOfText, PrintedAgain, ResolvedIsWhole};
 
 /// A text that is read as a tree has no offence that keeps it from that, and one that is accepted has none.
 pub fn never_refused()
@@ -29,10 +29,26 @@ pub fn names_tell_apart()
     ensures { NamesTellApart }
 {}
 
-/// A system that a text is accepted as keeps its ranges, is computed by 64-bit numbers, and can be run without
-/// choices.
+/// A system that a text is accepted as is checked: it is resolved, and has no offence of widths, costs and sends.
+pub fn accepted_is_checked()
+    ensures { AcceptedIsChecked }
+{}
+
+/// A system that a text is accepted as is safe: it begins within its ranges, its bodies keep them, and 64-bit numbers
+/// compute it.
+pub fn accepted_is_safe()
+    ensures { AcceptedIsSafe }
+{}
+
+/// A system that a text is accepted as, and in which no statement may ask for a choice, can be run without choices.
 pub fn accepted_runs()
     ensures { AcceptedRuns }
+{}
+
+/// In a system that a text is accepted as, the spelling of a message that is received means this message with its values,
+/// and nothing else.
+pub fn accepted_spellings_mean()
+    ensures { AcceptedSpellingsMean }
 {}
 
 /// A text is accepted as at most one system.

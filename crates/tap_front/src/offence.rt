@@ -4,46 +4,61 @@ ghost use Rattle.std.specs.Prelude.{◌≡◌, IfOk, string_bytes};
 ghost use Rattle.tap_front.specs.Lines.{code_word, offence_code, offence_place, refused_line};
 
 use std::alloc::Global;
-use tap_base::{NoMemory, Place, Refusal, RefusalCode};
+use tap_base::{NoMemory, Place, Refusal, RefusalCode, Text};
 
 /// The first offence of a text.
-#[derive(Clone, Copy, Debug, PartialEq, Eq)]
+#[derive(Debug, Drop)]
 pub enum Offence {
     /// One with a code and a place.
     Coded(Refusal),
+    /// Two messages, by their names, that one process receives from one other and that are not told apart: `M2`, at the
+    /// name of the second.
+    Alike {
+        place: Place,
+        first: Text,
+        second: Text,
+    },
     /// None of these, but the system is none that can be run so far: `S0` at 1:1, for the time being.
     Outside,
 }
 
 impl Offence {
     /// Its code as it is printed.
-    pub fn code(self) -> &'static str
-        ensures { result.now ≡ offence_code self }
+    pub fn code(&self) -> &'static str
+        ensures { result.now ≡ offence_code self.now }
     {
         match self {
             Offence::Coded(refusal) => code_word(refusal.code),
+            Offence::Alike { .. } => "M2",
             Offence::Outside => "S0",
         }
     }
 
     /// Where it stands.
-    pub fn place(self) -> Place
-        ensures { result ≡ offence_place self }
+    pub fn place(&self) -> Place
+        ensures { result ≡ offence_place self.now }
     {
         match self {
             Offence::Coded(refusal) => refusal.place,
+            Offence::Alike { place, .. } => *place,
             Offence::Outside => Place { line: 1, column: 1 },
         }
     }
 }
 
-/// The line that is written of an offence.
-pub fn refused_line(alloc: Global, offence: Offence) -> Result<String, NoMemory>
-    ensures { IfOk result (λ line. string_bytes line ≡ refused_line offence) }
+/// The line that is written of an offence, with the names of two messages that are not told apart.
+pub fn refused_line(alloc: Global, offence: &Offence) -> Result<String, NoMemory>
+    ensures { IfOk result (λ line. string_bytes line ≡ refused_line offence.now) }
 {
     let code = offence.code();
-    let place = offence.place();
-    Ok(format!(in alloc; "refused {code} {}:{}\n", place.line, place.column)?)
+    let Place { line, column } = offence.place();
+    match offence {
+        Offence::Alike { first, second, .. } => {
+            let (first, second) = (first.as_str(), second.as_str());
+            Ok(format!(in alloc; "refused {code} {line}:{column} {first} {second}\n")?)
+        }
+        _ => Ok(format!(in alloc; "refused {code} {line}:{column}\n")?),
+    }
 }
 
 /// A code as it is printed.

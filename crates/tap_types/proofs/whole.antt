@@ -1,6 +1,5 @@
 pub mod CellRuns
 pub mod Deeds
-pub mod ExprInduction
 pub mod FoundReceivers
 pub mod GoodExprs
 pub mod NewNames

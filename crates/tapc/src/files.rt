@@ -2,9 +2,9 @@
 
 ghost use Rattle.std.specs.Prelude.{◌≡◌, None};
 
+use link_trait::{Failed, Store};
 use std::fs::File;
 use std::io::Read;
-use tapc_core::{Failed, Store};
 
 /// Files by their names. Nothing is told of what they hold. Every error is counted, and so is a read with no
 /// file begun.

@@ -2,8 +2,8 @@
 
 ghost use Rattle.std.specs.Prelude.{◌≡◌, None};
 
+use link_trait::{Failed, Sink};
 use std::io::Write;
-use tapc_core::{Failed, Sink};
 
 /// Standard output. Nothing is told of what was written. Every error is counted.
 #[derive(Drop)]

@@ -1,7 +1,7 @@
 -- The files that a command read are there.
 use Rattle.std.proofs.Common.{◌≡◌, inl, inr, ℕ, List, [], Option, Some, None, Err, refl, sym, subst}
 use Rattle.tapc_core.specs.Command.{AreFound, Contents}
-use Rattle.tapc_core.specs.Outside.{IsTold}
+use Rattle.link_trait.specs.Outside.{IsTold}
 use Rattle.tapc_core.specs.Reading.{ReadsText}
 use Rattle.tapc_core.specs.commands.World.{IsPlayed, reads_both}
 use Rattle.tapc_core.specs.declared.files.FileFault.{FileFault}
@@ -11,7 +11,7 @@ use Rattle.tapc_core.specs.declared.reading.Reading.{Reading}
 use Rattle.tapc_core.specs.declared.reading.Reading.TheVariants.{Whole, TooLong}
 use Rattle.tapc_core.specs.declared.status.Status.{Status}
 use Rattle.tapc_core.specs.declared.status.Status.TheVariants.{Done, Refused, Usage, BadSchedule, ReadFault, WriteFault, LinkFault, NoMemory, NotARun, WorldFull}
-use Rattle.tapc_core.specs.inner.Closing.{Closes, failed, put}
+use Rattle.tapc_core.specs.inner.Closing.{Closes, ClosesOr, failed, put}
 use Rattle.tapc_core.specs.inner.FileFaults.{GivesUp, WasRead}
 
 -- ---- what is left
@@ -38,6 +38,13 @@ pub closed_found : (reads : Status → List (List ℕ)) (contents : Contents) (s
     → AreSpared reads → AreFound (reads status) contents → Closes status bytes before now r → AreFound (reads r) contents
 closed_found reads contents status bytes before now r spared found (put a) = found
 closed_found reads contents status bytes before now r spared found (failed front rest e a) = none_found (reads WriteFault) contents spared.unwritten
+
+-- or for want of memory with another one
+pub closed_or_found : (reads : Status → List (List ℕ)) (contents : Contents) (status : Status) (bytes others : List ℕ) (before now : Option (List ℕ)) (r : Status)
+    → AreSpared reads → AreFound (reads status) contents → ClosesOr status bytes others before now r → AreFound (reads r) contents
+closed_or_found reads contents status bytes others before now r spared found (inl c) = closed_found reads contents status bytes before now r spared found c
+closed_or_found reads contents status bytes others before now r spared found (inr c) =
+    closed_found reads contents NoMemory others before now r spared (none_found (reads NoMemory) contents spared.no_memory) c
 
 -- a command that had nothing to work on
 pub given_up_found : (reads : Status → List (List ℕ)) (contents : Contents) (fault : FileFault) (before now : Option (List ℕ)) (r : Status)

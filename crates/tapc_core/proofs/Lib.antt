@@ -1,6 +1,4 @@
-pub mod EntriesHeld
 pub mod Found
-pub mod FrontGiven
 pub mod FrontRead
 pub mod Fronts
 pub mod GivenTexts

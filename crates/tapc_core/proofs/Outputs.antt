@@ -241,6 +241,10 @@ pub closes_answered : {status r : Status} {bytes : List ℕ} {before now : Optio
 closes_answered P h k (put told) = h
 closes_answered P h k (failed front rest cut told) = k
 
+pub answered_or : {status r : Status} {bytes others : List ℕ} {before now : Option (List ℕ)} (P : Status → Type 0) → P status → P NoMemory → P WriteFault → ClosesOr status bytes others before now r → P r
+answered_or P h m k (inl c) = closes_answered P h k c
+answered_or P h m k (inr c) = closes_answered P m k c
+
 pub closes_played : {status r : Status} {bytes : List ℕ} {before now : Option (List ℕ)} → IsPlayed status → Closes status bytes before now r → IsPlayed r
 closes_played h = closes_answered IsPlayed h tt
 

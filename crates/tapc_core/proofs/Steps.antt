@@ -7,7 +7,7 @@ use Rattle.tap_base.specs.Lists.{Each}
 use Rattle.tap_base.specs.Option.{◌>>=◌}
 use Rattle.abstract_run.specs.Answers.{Answers, Serves}
 use Rattle.abstract_run.specs.Semantics.{Semantics}
-use Rattle.abstract_run.specs.Run.{AllChooseFirst, state_after}
+use Rattle.abstract_run.specs.Run.{state_after}
 use Rattle.abstract_run.specs.Step.{step}
 use Rattle.abstract_run.specs.declared.label.Event.{Event}
 use Rattle.abstract_run.specs.declared.label.Label.{Label}
@@ -15,6 +15,10 @@ use Rattle.abstract_run.specs.declared.state.State.{State}
 use Rattle.run_text.specs.ScheduleText.{AreListed, IsFirstLine, IsListed, SpellsEvent, event_line, events_text, most_events}
 use Rattle.run_text.specs.TraceText.{lines_text, names_in}
 use Rattle.tapc_core.specs.inner.Playing.{Passed, Progress}
+use Rattle.guard_scheduler.specs.Cursor.{Cursor}
+use Rattle.exact_choice.specs.Choice.{AllChoose, ChoosesInTurn, opening_cursors}
+use Rattle.exact_choice.specs.Moments.{moments}
+use Rattle.exact_choice.proofs.Joined.{all_joined, moments_joined}
 use Rattle.world_run.specs.Served.{Served}
 use Rattle.run_text.proofs.RunLines.{run_lines_more}
 use Rattle.world_run.proofs.Lines.{lines_append}
@@ -99,10 +103,16 @@ state_after_more m s t u [] ys h k = let e : s ≡ t = cc in subst (λ x. state_
 state_after_more m s t u (l ∷ xs) ys h k =
     go_on (step m s l) (λ a. state_after m a.0 xs) (λ a. state_after m a.0 (xs ++ ys)) t u (λ a e. state_after_more m a.0 t u xs ys e k) h
 
-pub first_more : (m : Semantics) (s t : State) (xs ys : List Label) → state_after m s xs ≡ Some t → AllChooseFirst m s xs → AllChooseFirst m t ys → AllChooseFirst m s (xs ++ ys)
-first_more m s t [] ys h first more = let e : s ≡ t = cc in subst (λ x. AllChooseFirst m x ys) (sym e) more
-first_more m s t (l ∷ xs) ys h first more =
-    (first.0, λ u e. first_more m u t xs ys (after_one (step m s l) (λ x. state_after m x xs) u t h e) (first.1 u e) more)
+-- what is chosen in a run and what is chosen from its end on
+chosen_more : (m : Semantics) (s t : State) (xs ys : List Label) (later : List Cursor) → state_after m s xs ≡ Some t → (x : ChoosesInTurn m s xs) → AllChoose m (moments m t ys) x.cursors later
+    → (y : ChoosesInTurn m s (xs ++ ys)) × (y.cursors ≡ later)
+chosen_more m s t xs ys later h x more = (
+  record {
+    cursors = later;
+    all = subst (λ ms. AllChoose m ms (opening_cursors m) later) (sym (moments_joined m s t xs ys h)) (all_joined m (moments m s xs) (moments m t ys) (opening_cursors m) x.cursors later x.all more);
+  },
+  refl,
+)
 
 pub answered : (m : Semantics) (s t : State) (es : List Event) (labels : List Label) → Answers m s es labels t → state_after m s labels ≡ Some t
 answered m s t [] labels h = ap (state_after m s) h.0 ∙ ap Some (sym h.1)
@@ -114,61 +124,75 @@ each_and : {A : Type 0} (P : A → Type 0) (xs ys : List A) → Each P xs → Ea
 each_and P [] ys h k = k
 each_and P (x ∷ xs) ys h k = (h.0, each_and P xs ys h.1 k)
 
-pub progress_start : (semantics : Semantics) (start : State) (schedule : List ℕ) (before : Option (List ℕ)) → Progress semantics start schedule schedule 1 start before before []
-progress_start semantics start schedule before = record {
-  events = [];
-  listed = record { each = tt; few = lit≤ tt };
-  passed = inl refl;
-  count = refl;
-  labels = [];
-  run = record { answers = (refl, refl); first = tt };
-  sized = tt;
-  put = [];
-  told = appends_none before;
-  lines = [];
-  shown = refl;
-  is = refl;
+-- what is served goes on, and the cursors stand so
+pub record Goes (semantics : Semantics) (start : State) (schedule rest : List ℕ) (number : ℕ) (s : State) (cursors : List Cursor) (before now : Option (List ℕ)) (page : List ℕ) : Type 0 where
+  pub progress : Progress semantics start schedule rest number s before now page
+  pub stand : progress.run.chosen.cursors ≡ cursors
+
+pub goes_start : (semantics : Semantics) (start : State) (schedule : List ℕ) (before : Option (List ℕ)) → Goes semantics start schedule schedule 1 start (opening_cursors semantics) before before []
+goes_start semantics start schedule before = record {
+  progress = record {
+    events = [];
+    listed = record { each = tt; few = lit≤ tt };
+    passed = inl refl;
+    count = refl;
+    labels = [];
+    run = record { answers = (refl, refl); chosen = record { cursors = opening_cursors semantics; all = refl } };
+    sized = tt;
+    put = [];
+    told = appends_none before;
+    lines = [];
+    shown = refl;
+    is = refl;
+  };
+  stand = refl;
 }
 
-pub progress_more : {semantics : Semantics} {start : State} {schedule rest line tail : List ℕ} {number : ℕ} {s t : State} {before now : Option (List ℕ)} {page after : List ℕ} {e : Event}
-    → number ≤ most_events → Progress semantics start schedule rest number s before now page → (rest ≡ [] → ⊥) → IsFirstLine rest line tail → SpellsEvent (names_in semantics) line e
-    → Served semantics e s t page after → Progress semantics start schedule tail (number + 1) t before now after
-progress_more {semantics = semantics} {number = number} {s = s} {t = t} {page = page} {after = after} {e = e} few p some first spells served =
+pub goes_more : {semantics : Semantics} {start : State} {schedule rest line tail : List ℕ} {number : ℕ} {s t : State} {cursors later : List Cursor} {before now : Option (List ℕ)} {page after : List ℕ} {e : Event}
+    → number ≤ most_events → Goes semantics start schedule rest number s cursors before now page → (rest ≡ [] → ⊥) → IsFirstLine rest line tail → SpellsEvent (names_in semantics) line e
+    → Served semantics e s t cursors later page after → Goes semantics start schedule tail (number + 1) t later before now after
+goes_more {semantics = semantics} {number = number} {s = s} {t = t} {cursors = cursors} {later = later} {page = page} {after = after} {e = e} few g some first spells served =
+    let p = g.progress in
     let ran = answered semantics _ s p.events p.labels p.run.answers in
     let wrote = served.wrote in
+    let more = chosen_more semantics _ s p.labels served.labels later ran p.run.chosen (subst (λ cs. AllChoose semantics (moments semantics s served.labels) cs later) (sym g.stand) served.chosen) in
     record {
-      events = p.events ++ e ∷ [];
-      listed = listed_more _ p.events e p.listed spells.0 (omega (arith, p.count, few));
-      passed = passed_more (names_in semantics) _ p.events _ _ _ e some p.passed first spells.1;
-      count = omega (arith, p.count, length-append p.events (e ∷ []));
-      labels = p.labels ++ served.labels;
-      run = record {
-        answers = answers_more semantics _ s t p.events e p.labels served.labels p.run.answers served.serves;
-        first = first_more semantics _ s p.labels served.labels ran p.run.first served.first;
+      progress = record {
+        events = p.events ++ e ∷ [];
+        listed = listed_more _ p.events e p.listed spells.0 (omega (arith, p.count, few));
+        passed = passed_more (names_in semantics) _ p.events _ _ _ e some p.passed first spells.1;
+        count = omega (arith, p.count, length-append p.events (e ∷ []));
+        labels = p.labels ++ served.labels;
+        run = record { answers = answers_more semantics _ s t p.events e p.labels served.labels p.run.answers served.serves; chosen = more.0 };
+        sized = each_and _ p.labels served.labels p.sized served.sized;
+        put = p.put;
+        told = p.told;
+        lines = p.lines ++ wrote.lines;
+        shown = run_lines_more semantics _ s p.labels served.labels p.lines wrote.lines ran p.shown wrote.shown;
+        is = lines_append p.lines wrote.lines ∙ ap (λ z. z ++ lines_text wrote.lines) p.is ∙ append_assoc p.put page (lines_text wrote.lines) ∙ ap (λ z. p.put ++ z) (sym wrote.told);
       };
-      sized = each_and _ p.labels served.labels p.sized served.sized;
-      put = p.put;
-      told = p.told;
-      lines = p.lines ++ wrote.lines;
-      shown = run_lines_more semantics _ s p.labels served.labels p.lines wrote.lines ran p.shown wrote.shown;
-      is = lines_append p.lines wrote.lines ∙ ap (λ z. z ++ lines_text wrote.lines) p.is ∙ append_assoc p.put page (lines_text wrote.lines) ∙ ap (λ z. p.put ++ z) (sym wrote.told);
+      stand = more.1;
     }
 
 -- the front of the page was put
-pub progress_moved : {semantics : Semantics} {start : State} {schedule rest : List ℕ} {number : ℕ} {s : State} {before middle now : Option (List ℕ)} {page left : List ℕ}
-    → Progress semantics start schedule rest number s before middle page → (put : List ℕ) → Appends middle now put → put ++ left ≡ page
-    → Progress semantics start schedule rest number s before now left
-progress_moved {before = before} {middle = middle} {now = now} {left = left} p put told cut = record {
-  events = p.events;
-  listed = p.listed;
-  passed = p.passed;
-  count = p.count;
-  labels = p.labels;
-  run = p.run;
-  sized = p.sized;
-  put = p.put ++ put;
-  told = appends_more before middle now p.put put p.told told;
-  lines = p.lines;
-  shown = p.shown;
-  is = p.is ∙ ap (λ z. p.put ++ z) (sym cut) ∙ sym (append_assoc p.put put left);
-}
+pub goes_moved : {semantics : Semantics} {start : State} {schedule rest : List ℕ} {number : ℕ} {s : State} {cursors : List Cursor} {before middle now : Option (List ℕ)} {page left : List ℕ}
+    → Goes semantics start schedule rest number s cursors before middle page → (put : List ℕ) → Appends middle now put → put ++ left ≡ page → Goes semantics start schedule rest number s cursors before now left
+goes_moved {before = before} {middle = middle} {now = now} {left = left} g put told cut =
+    let p = g.progress in
+    record {
+      progress = record {
+        events = p.events;
+        listed = p.listed;
+        passed = p.passed;
+        count = p.count;
+        labels = p.labels;
+        run = p.run;
+        sized = p.sized;
+        put = p.put ++ put;
+        told = appends_more before middle now p.put put p.told told;
+        lines = p.lines;
+        shown = p.shown;
+        is = p.is ∙ ap (λ z. p.put ++ z) (sym cut) ∙ sym (append_assoc p.put put left);
+      };
+      stand = g.stand;
+    }

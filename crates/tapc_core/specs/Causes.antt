@@ -1,6 +1,6 @@
 -- Which counts of faults rise with a status, and what is answered where none rose.
 use Rattle.std.specs.Prelude.{◌≡◌, ◌⊎◌, ℕ, ◌≤◌}
-use Rattle.tapc_core.specs.Outside.{Rose}
+use Rattle.link_trait.specs.Outside.{Rose}
 use Rattle.tapc_core.specs.declared.status.Status.{Status}
 use Rattle.tapc_core.specs.declared.status.Status.TheVariants.{ReadFault, WriteFault, NoMemory}
 

@@ -1,7 +1,7 @@
 -- What a command does.
 use Rattle.std.specs.Prelude.{ℕ, List, Option}
 use Rattle.tap_base.specs.Lists.{Each}
-use Rattle.tapc_core.specs.Outside.{IsTold}
+use Rattle.link_trait.specs.Outside.{IsTold}
 use Rattle.tapc_core.specs.declared.status.Status.{Status}
 
 -- what names hold, where it is told

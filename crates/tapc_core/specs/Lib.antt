@@ -1,12 +1,7 @@
-pub mod Calls
 pub mod Causes
 pub mod Command
-pub mod Entries
 pub mod Laws
 pub mod Lines
-pub mod MemorySink
-pub mod MemoryStore
-pub mod Outside
 pub mod Reading
 pub mod Run
 pub mod SettingWords

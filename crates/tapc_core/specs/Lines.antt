@@ -2,9 +2,6 @@
 use Rattle.std.specs.Prelude.{ℕ, List, [], ◌∷◌, ◌++◌, codes}
 use Rattle.std.specs.Fmt.{decimal}
 
-abbrev pub accepted_line : List ℕ
-accepted_line = codes "accepted\n"
-
 abbrev pub read_fault_line : List ℕ
 read_fault_line = codes "read fault\n"
 

@@ -1,7 +1,7 @@
 -- What a reading of a name gives.
 use Rattle.std.specs.Prelude.{ℕ, ◌+◌, ◌≡◌, ◌≤◌, ◌<◌, List, [], length, take, drop, Option, Some, Result, Ok, Err, IfSome}
 use Rattle.tap_front.specs.Accepting.{longest_text}
-use Rattle.tapc_core.specs.Outside.{Rose}
+use Rattle.link_trait.specs.Outside.{Rose}
 use Rattle.tapc_core.specs.declared.reading.ReadError.{ReadError}
 use Rattle.tapc_core.specs.declared.reading.ReadError.TheVariants.{NoMemory, Failed}
 use Rattle.tapc_core.specs.declared.reading.Reading.{Reading}

@@ -5,27 +5,27 @@ use Rattle.tap_base.specs.declared.system.Inputs.{Inputs}
 use Rattle.tap_base.specs.declared.system.System.{System}
 use Rattle.abstract_run.specs.Answers.{Answers}
 use Rattle.abstract_run.specs.Opening.{opening_state}
-use Rattle.abstract_run.specs.Run.{AllChooseFirst}
 use Rattle.abstract_run.specs.Semantics.{Semantics, semantics_of}
 use Rattle.abstract_run.specs.declared.label.Event.{Event}
 use Rattle.abstract_run.specs.declared.label.Label.{Label}
 use Rattle.abstract_run.specs.declared.state.State.{State}
+use Rattle.exact_choice.specs.Choice.{ChoosesInTurn}
 use Rattle.run_text.specs.TraceText.{lines_text, names_in, run_lines}
-use Rattle.tap_front.specs.Accepting.{Accepted}
+use Rattle.tap_front.specs.Runs.{CanRun}
 use Rattle.tap_settings.specs.GivenInputs.{inputs_given}
 use Rattle.tap_settings.specs.SettingText.{Assignment}
 
--- The file holds a text that is accepted as the system, whether or not that is told.
+-- The file holds a text that can be run as the system, whether or not that is told.
 pub record HoldsSystem (told : Option (List ℕ)) (system : System) : Type 0 where
   pub text : List ℕ
   pub text_is : IfSome told (λ t. t ≡ text)
-  pub accepted : Accepted text system
+  pub runs : CanRun text system
 
--- The text gives the record, and with the settings the inputs: it is accepted as a system that says this, for which the
+-- The text gives the record, and with the settings the inputs: it can be run as a system that says this, for which the
 -- settings give these.
 pub record Gives (text : List ℕ) (settings : List Assignment) (semantics : Semantics) (inputs : Inputs) : Type 0 where
   pub system : System
-  pub accepted : Accepted text system
+  pub runs : CanRun text system
   pub says : semantics ≡ semantics_of system
   pub given : inputs_given system settings ≡ Some inputs
 
@@ -36,10 +36,10 @@ pub record FileGives (told : Option (List ℕ)) (settings : List Assignment) (se
   pub gives : Gives text settings semantics inputs
 
 -- From a state on the labels answer the events, and end in the last state. Each action that runs is the first enabled one
--- of its process.
+-- of its process in cyclic order, from the one after the last that ran.
 pub record IsRunFrom (semantics : Semantics) (start : State) (events : List Event) (labels : List Label) (last : State) : Type 0 where
   pub answers : Answers semantics start events labels last
-  pub first : AllChooseFirst semantics start labels
+  pub chosen : ChoosesInTurn semantics start labels
 
 -- what a run is given: the contents of its two files, where they are told, and the settings
 pub record Task : Type 0 where

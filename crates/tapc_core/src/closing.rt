@@ -2,11 +2,11 @@
 
 ghost use Rattle.std.specs.Prelude.{◌≡◌, ◌≢◌, ◌++◌};
 ghost use Rattle.tapc_core.specs.Causes.{HasSinkCause};
-ghost use Rattle.tapc_core.specs.Outside.{HasCause, PutAppends};
+ghost use Rattle.link_trait.specs.Outside.{HasCause, PutAppends};
 ghost use Rattle.tapc_core.specs.inner.Closing.{Closes};
 
-use crate::outside::{Failed, Sink};
 use crate::status::Status;
+use link_trait::{Failed, Sink};
 
 /// Puts the one text that a run writes, and answers the status; where the put fails, `WriteFault`.
 pub fn close<O: Sink>(text: &[u8], out: &mut O, status: Status) -> Status

@@ -3,17 +3,19 @@
 ghost use Rattle.std.specs.Prelude.{◌≡◌, ◌≤◌, ◌<◌, ◌^◌, ◌⊎◌, [], length, MatchOption, OnSome};
 ghost use Rattle.abstract_run.specs.CellCount.{cells_in};
 ghost use Rattle.abstract_run.specs.Semantics.{semantics_of};
+ghost use Rattle.exact_choice.specs.Choice.{opening_cursors};
 ghost use Rattle.run_text.specs.Names.{AreNames};
 ghost use Rattle.run_text.specs.ScheduleText.{IsOfNoEvent, SpellsEvent, most_events};
 ghost use Rattle.run_text.specs.TraceText.{names_in};
-ghost use Rattle.tapc_core.specs.Outside.{HasCause};
+ghost use Rattle.link_trait.specs.Outside.{HasCause};
 ghost use Rattle.tapc_core.specs.inner.Playing.{HasPlayCause, Moves, Plays};
 ghost use Rattle.abstract_run.specs.Runnable.{IsRunnable};
+ghost use Rattle.world_run.specs.Layouts.{IsLayoutOf};
 ghost use Rattle.world_run.specs.Names.{AreNamesOf};
 ghost use Rattle.world_run.specs.Served.{IsSteady};
 
-use crate::outside::{Failed, Sink};
 use abstract_run::Event;
+use link_trait::{Failed, Sink};
 use run_text::{Names, first_line, read_event};
 use std::alloc::Global;
 use tap_base::NoMemory;
@@ -67,8 +69,10 @@ pub fn play_lines<O: Sink>(
     out: &mut O,
 ) -> Result<(), Stop>
     requires runnable { IsRunnable world.old.system }
+    requires layout { IsLayoutOf world.old.system world.old.layout }
     requires steady { IsSteady (semantics_of world.old.system) world.old.state }
     requires no_cells { cells_in world.old.state ≡ 0 }
+    requires opened { world.old.turnstiles ≡ opening_cursors (semantics_of world.old.system) }
     requires names { AreNamesOf (semantics_of world.old.system) names.now }
     requires apart { AreNames (names_in (semantics_of world.old.system)) }
     requires empty { page.old.items ≡ [] }

@@ -1,10 +1,12 @@
 //! A run from its opening state to the last line that is written.
 
 ghost use Rattle.std.specs.Prelude.{◌≡◌, ◌++◌, IfOk, string_bytes};
+ghost use Rattle.tap_base.specs.Wires.{wire_of};
 ghost use Rattle.abstract_run.specs.CellCount.{cells_in};
 ghost use Rattle.abstract_run.specs.Fits.{InputsFit};
 ghost use Rattle.abstract_run.specs.Opening.{opening_state};
 ghost use Rattle.abstract_run.specs.Semantics.{semantics_of};
+ghost use Rattle.exact_choice.specs.Choice.{opening_cursors};
 ghost use Rattle.run_text.specs.Names.{AreNames};
 ghost use Rattle.run_text.specs.TraceText.{last_lines, lines_text, names_in};
 ghost use Rattle.tapc_core.specs.Causes.{HasSinkCause};
@@ -15,13 +17,14 @@ ghost use Rattle.tapc_core.specs.commands.World.{IsPlayed, OfWorld};
 ghost use Rattle.tapc_core.specs.inner.Closing.{ClosesOr};
 ghost use Rattle.tapc_core.specs.inner.Playing.{AreOf};
 ghost use Rattle.abstract_run.specs.Runnable.{IsRunnable};
+ghost use Rattle.world_run.specs.Layouts.{HasLayout, IsLayoutOf};
 ghost use Rattle.world_run.specs.Names.{AreNamesOf};
 ghost use Rattle.world_run.specs.Served.{IsSteady};
 
 use crate::closing::{close, close_behind};
 use crate::lines::{Stop, play_lines};
-use crate::outside::Sink;
 use crate::status::Status;
+use link_trait::Sink;
 use run_text::{Names, names_of};
 use std::alloc::Global;
 use tap_base::{Inputs, NoMemory, System};
@@ -39,6 +42,7 @@ pub fn play<O: Sink>(
     out: &mut O,
 ) -> Status
     requires runnable { IsRunnable system }
+    requires wire { HasLayout (wire_of system) }
     requires fit { InputsFit (semantics_of system) inputs.now }
     requires apart { AreNames (names_in (semantics_of system)) }
     ensures writes { (task : Task) → AreOf system inputs.now schedule.now task → Writes (OfWorld task) result (O.written out.old) (O.written out.new) }
@@ -63,8 +67,10 @@ fn play_world<O: Sink>(
     out: &mut O,
 ) -> Status
     requires runnable { IsRunnable world.old.system }
+    requires layout { IsLayoutOf world.old.system world.old.layout }
     requires steady { IsSteady (semantics_of world.old.system) world.old.state }
     requires no_cells { cells_in world.old.state ≡ 0 }
+    requires opened { world.old.turnstiles ≡ opening_cursors (semantics_of world.old.system) }
     requires names { AreNamesOf (semantics_of world.old.system) names.now }
     requires apart { AreNames (names_in (semantics_of world.old.system)) }
     ensures writes { (task : Task) (inputs : Inputs) → world.old.state ≡ opening_state (semantics_of world.old.system) inputs → AreOf world.old.system inputs schedule.now task → Writes (OfWorld task) result (O.written out.old) (O.written out.new) }

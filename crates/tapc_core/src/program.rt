@@ -1,12 +1,13 @@
 //! The top call.
 
 ghost use Rattle.std.specs.Prelude.{◌≡◌, ℕ, List, None, Some};
+ghost use Rattle.tap_front.specs.Acceptance as written;
 ghost use Rattle.tap_settings.specs.Lines.{refused_setting_line};
 ghost use Rattle.tap_settings.specs.SettingText.{Assignment};
 ghost use Rattle.tapc_core.specs.Causes.{HasSinkCause, HasStoreCause, IsSure};
 ghost use Rattle.tapc_core.specs.Command.{AreFound};
 ghost use Rattle.tapc_core.specs.Lines.{no_memory_line};
-ghost use Rattle.tapc_core.specs.Outside.{IsTold};
+ghost use Rattle.link_trait.specs.Outside.{IsTold};
 ghost use Rattle.tapc_core.specs.SettingWords.{settings_among};
 ghost use Rattle.tapc_core.specs.Words as asked;
 ghost use Rattle.tapc_core.specs.Written.{Puts, Writes};
@@ -19,16 +20,17 @@ ghost use Rattle.tapc_core.specs.inner.FileFaults.{GivesUp};
 
 use crate::closing::close;
 use crate::files::{FileFault, read_system, read_tree};
-use crate::outside::{Sink, Store};
 use crate::play::{NO_MEMORY, play};
 use crate::start::{Start, StartFault, begin};
 use crate::status::Status;
 use crate::words::{Command, command_of, usage_line};
+use link_trait::{Sink, Store};
 use std::alloc::Global;
 use tap_base::{NoMemory, Text};
-use tap_front::{Offence, refused_line};
+use tap_front::{Offence, acceptance, refused_line};
 use tap_printer::print;
 use tap_settings::{SettingRefusal, refused_setting_line};
+use width_check::Checked;
 
 /// What the program does: it takes the words of the command line, and answers the status.
 pub fn run<S: Store, O: Sink>(alloc: Global, words: &[Text], store: &mut S, out: &mut O) -> Status
@@ -83,8 +85,19 @@ fn check<S: Store, O: Sink>(alloc: Global, system: &str, store: &mut S, out: &mu
     ensures sink_cause { HasSinkCause result (O.faults out.old) (O.faults out.new) }
 {
     match read_system(alloc, system, store) {
-        Ok(_system) => close(b"accepted\n", out, Status::Done),
+        Ok(checked) => close_accepted(alloc, &checked, out),
         Err(fault) => give_up(alloc, fault, out),
+    }
+}
+
+/// Puts what is written of an accepted text.
+fn close_accepted<O: Sink>(alloc: Global, checked: &Checked, out: &mut O) -> Status
+    ensures closes { ClosesOr Status.Done (written.acceptance checked.now) no_memory_line (O.written out.old) (O.written out.new) result }
+    ensures cause { HasSinkCause result (O.faults out.old) (O.faults out.new) }
+{
+    match acceptance(alloc, checked) {
+        Ok(text) => close(text.as_bytes(), out, Status::Done),
+        Err(NoMemory) => close(NO_MEMORY, out, Status::NoMemory),
     }
 }
 
@@ -152,15 +165,15 @@ fn give_up<O: Sink>(alloc: Global, fault: FileFault, out: &mut O) -> Status
     ensures cause { HasSinkCause result (O.faults out.old) (O.faults out.new) }
 {
     match fault {
-        FileFault::Refused(offence) => close_refused(alloc, offence, out),
+        FileFault::Refused(offence) => close_refused(alloc, &offence, out),
         FileFault::ReadFault => close(b"read fault\n", out, Status::ReadFault),
         FileFault::NoMemory => close(NO_MEMORY, out, Status::NoMemory),
     }
 }
 
 /// Puts the line of an offence.
-fn close_refused<O: Sink>(alloc: Global, offence: Offence, out: &mut O) -> Status
-    ensures closes { GivesUp (FileFault.Refused offence) (O.written out.old) (O.written out.new) result }
+fn close_refused<O: Sink>(alloc: Global, offence: &Offence, out: &mut O) -> Status
+    ensures closes { GivesUp (FileFault.Refused offence.now) (O.written out.old) (O.written out.new) result }
     ensures cause { HasSinkCause result (O.faults out.old) (O.faults out.new) }
 {
     match refused_line(alloc, offence) {

@@ -1,10 +1,10 @@
 //! The contents of a name, read in one go.
 
 ghost use Rattle.std.specs.Prelude.{◌≡◌, ◌≤◌, ◌<◌, ℕ, List, length, IfOk, OnOk};
-ghost use Rattle.tapc_core.specs.Outside.{IsTold};
+ghost use Rattle.link_trait.specs.Outside.{IsTold};
 ghost use Rattle.tapc_core.specs.Reading.{HasReadCause, LeavesText, ReadsFront, ReadsText, ReadsWhole};
 
-use crate::outside::{Failed, Store};
+use link_trait::{Failed, Store};
 use std::alloc::Global;
 use tap_base::{List, NoMemory};
 use tap_front::LONGEST_TEXT;

@@ -4,9 +4,9 @@ use super::uses::lines;
 use front_tests::texts::{numbered, offence_lines};
 use std::test::Fail;
 
-/// Bytes, tokens and grammar come before names, wherever they stand; and what can't be run so far comes last.
+/// Bytes, tokens and grammar come before names, wherever they stand; and widths and the layout of messages come last.
 #[test]
-fn names_come_behind_tokens_and_before_what_runs(rt: HostRuntime) -> Result<(), Fail> {
+fn names_come_behind_tokens_and_before_widths(rt: HostRuntime) -> Result<(), Fail> {
     let table = [
         (
             "a byte behind a name",
@@ -29,9 +29,9 @@ fn names_come_behind_tokens_and_before_what_runs(rt: HostRuntime) -> Result<(), 
             "process a begin 1 -> skip [] ^1+1+1+1+1+1+1+1+1+1+1+1+1+1+1+1+1+1+1+1+1+1+1+1+1+1+1+1+1+1+1+1+1+1+1+1+1+1+1+1+1+1+1+1+1+1+1+1+1+1+1+1+1+1+1+1+1+1+1+1+1+1+1+1+1+1+1+1+1+1+1+1+1+1+1+1+1+1+1+1+1+1+1+1+1+1+1+1+1+1+1+1+1+1+1+1+1+1+1+1+1 -> skip end",
         ),
         (
-            "a timer before a name",
+            "a delay before a name",
             "N1",
-            "process a timer t begin timeout t -> skip [] ^z = 0 -> skip end",
+            "process a timer t begin timeout t -> start t after -1 [] ^z = 0 -> skip end",
         ),
         (
             "a value out of its range before a name",

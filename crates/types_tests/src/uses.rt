@@ -1,12 +1,12 @@
 //! The first offence in uses of names: in guards and statements.
 
-use front_tests::texts::offence_lines;
+use front_tests::texts::{answer_lines, offence_lines};
 use std::alloc::Global;
 use std::test::Fail;
 
 /// What stands before the actions of a process a.
 const FRONT: &str = "message m begin f : 8 bits; g : 8 bits end
-message n begin h : 8 bits; l : 4 bits = 3 end
+message n begin h : 8 bits; l : 12 bits = 3 end
 process a
 const k = 3
 inp i : 0..9; j : boolean
@@ -24,13 +24,13 @@ process b var o : 0..1 begin rcv m from a -> skip [] rcv n from a -> skip end
 process c begin end
 ";
 
-/// The line of an offence of this code at the mark of some actions of a, and the line that is told of their text; of
-/// actions without a mark, the line of an offence at the start of the text.
-pub fn lines(alloc: Global, actions: &str, code: &str) -> Result<(String, String), Fail> {
+/// The line of an answer to some actions of a, and the line that is told of their text: the answer is `accepted`, or the
+/// code of an offence at their mark.
+pub fn lines(alloc: Global, actions: &str, answer: &str) -> Result<(String, String), Fail> {
     let mut marked = String::from_str(alloc, FRONT)?;
     marked.push_str(actions)?;
     marked.push_str(BACK)?;
-    offence_lines(alloc, marked.as_str(), code)
+    answer_lines(alloc, marked.as_str(), answer)
 }
 
 #[test]
@@ -433,52 +433,82 @@ fn who_is_sent_a_message_receives_it(rt: HostRuntime) -> Result<(), Fail> {
     Ok(())
 }
 
-/// Actions without an offence of names, kinds and limits: they can't be run so far, and no more is told.
+/// Actions without an offence of names, kinds and limits. Some have an offence of widths; the others are accepted.
 #[test]
 fn forms_are_used_rightly(rt: HostRuntime) -> Result<(), Fail> {
     let table = [
-        ("no action", ""),
+        ("no action", "", "accepted"),
         (
             "numbers of all kinds",
-            "x + k * i - -y div r[x] mod 2 = 0 -> skip",
+            "x + k * i - -y div r[^x] mod 2 = 0 -> skip",
+            "W3",
         ),
         (
             "truths of all kinds",
             "not u and j or s[0] = (x < y) -> skip",
+            "accepted",
         ),
-        ("a truth is a truth", "u = (x = y) -> skip"),
-        ("truths differ", "true != s[0] -> skip"),
-        ("parentheses", "((u)) and ((x) = (1)) -> skip"),
-        ("min and max", "min(x, k) <= max(i, -1) -> skip"),
-        ("an element of an element", "r[r[r[0]]] = 1 -> skip"),
-        ("targets", "u -> x, r[x + 1], s[i] := y, x, x = y"),
-        ("one target twice", "u -> x, x := 1, 2"),
-        ("fields", "rcv m from b -> x, u := m.f + m.g, m.f = m.g"),
+        ("a truth is a truth", "u = (x = y) -> skip", "accepted"),
+        ("truths differ", "true != s[0] -> skip", "accepted"),
+        ("parentheses", "((u)) and ((x) = (1)) -> skip", "accepted"),
+        ("min and max", "min(x, k) <= max(i, -1) -> skip", "accepted"),
+        ("an element of an element", "r[r[^r[0]]] = 1 -> skip", "W3"),
+        ("targets", "u -> x, r[x ^+ 1], s[i] := y, x, x = y", "W3"),
+        ("one target twice", "u -> x, x := 1, 2", "accepted"),
+        (
+            "fields",
+            "rcv m from b -> ^x, u := m.f + m.g, m.f = m.g",
+            "W1",
+        ),
         (
             "fields in branches",
-            "rcv m from b -> if m.f = 0 -> do 2 times m.g > 1 -> r[m.f] := m.g od fi",
+            "rcv m from b -> if m.f = 0 -> do 2 times m.g > 1 -> r[^m.f] := m.g od fi",
+            "W3",
         ),
-        ("a fixed field that is received", "rcv n from c -> x := n.l"),
-        ("a fixed field that is not sent", "u -> send n(x) to b"),
-        ("timers", "timeout t -> start t after x + 1; stop t"),
+        (
+            "a fixed field that is received",
+            "rcv n from c -> x := n.l",
+            "accepted",
+        ),
+        (
+            "a fixed field that is not sent",
+            "u -> send n(x) to b",
+            "accepted",
+        ),
+        (
+            "timers",
+            "timeout t -> start t after x + 1; stop t",
+            "accepted",
+        ),
         (
             "2 ^ 32 values",
-            "u -> choose wide; choose r[x]; choose u; choose s[0]",
+            "u -> choose wide; choose r[^x]; choose u; choose s[0]",
+            "W3",
         ),
-        ("one turn", "u -> do 1 times u -> skip od"),
+        ("one turn", "u -> do 1 times u -> skip od", "accepted"),
         (
             "65,536 turns",
             "u -> do 65536 times u -> skip [] j -> skip od",
+            "accepted",
         ),
-        ("a send in a branch", "u -> if u -> send m(x, y) to b fi"),
+        (
+            "a send in a branch",
+            "u -> if u -> send m(x, y) to b fi",
+            "accepted",
+        ),
         (
             "received twice",
             "rcv m from b -> skip [] rcv m from b -> skip",
+            "accepted",
         ),
-        ("received and never sent", "rcv m from c -> skip"),
+        (
+            "received and never sent",
+            "rcv m from c -> skip",
+            "accepted",
+        ),
     ];
-    for (name, actions) in table {
-        let (wanted, found) = lines(rt.alloc(), actions, "S0")?;
+    for (name, actions, answer) in table {
+        let (wanted, found) = lines(rt.alloc(), actions, answer)?;
         assert!(rt; found.as_str() == wanted.as_str(), "{name}: {found}");
     }
     Ok(())

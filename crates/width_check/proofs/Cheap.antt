@@ -12,7 +12,8 @@ use Rattle.tap_base.specs.Offences.{where_}
 use Rattle.tap_base.specs.Scope.{scope_of}
 use Rattle.tap_base.proofs.ListFacts.{both_empty}
 use Rattle.tap_base.proofs.OffenceFacts.{unmet}
-use Rattle.width_check.specs.Cost.{action_cost, action_sends, greatest, process_cost}
+use Rattle.tap_base.specs.Sends.{action_sends}
+use Rattle.width_check.specs.Cost.{action_cost, greatest, process_cost}
 use Rattle.width_check.specs.Offences.{action_offences, guard_offences, limit_offences, most_cost, most_sends, offences, process_offences}
 use Rattle.width_check.specs.StmtOffences.{body_offences}
 use Rattle.width_check.specs.inner.Answering.{IsCheap}

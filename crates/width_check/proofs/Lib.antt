@@ -1,5 +1,4 @@
 pub mod Cheap
-pub mod Ends
 pub mod FieldFacts
 pub mod Firsts
 pub mod Passing

@@ -1,4 +1,4 @@
--- What expressions, statements and actions cost, and how many sends they make at most: whole numbers without bound.
+-- What expressions, statements and actions cost: whole numbers without bound.
 use Rattle.std.specs.Prelude.{ℕ, ◌+◌, ◌*◌, max, sum, List, [], ◌∷◌, map, Option, Some, None}
 use Rattle.tap_base.specs.declared.system.Action.{Action}
 use Rattle.tap_base.specs.declared.system.Guard.{Guard}
@@ -12,8 +12,6 @@ use Rattle.tap_base.specs.declared.tree.Stmt.{Stmt}
 use Rattle.tap_base.specs.declared.tree.Stmt.TheFolds.{fold-Stmt, fold-Branch}
 use Rattle.tap_base.specs.declared.tree.Stmt.TheOpen.{Stmt-F, Branch-F}
 use Rattle.tap_base.specs.declared.tree.Target.{Target}
-
--- ---- costs
 
 -- a node, and those of its parts
 abbrev pub expr_cost_step : ExprKind-F ℕ ℕ → ℕ
@@ -78,27 +76,3 @@ greatest (n ∷ ns) = max n (greatest ns)
 -- the greatest cost of its actions, or 0 where it has none
 abbrev pub process_cost : Process → ℕ
 process_cost p = greatest (map action_cost p.actions)
-
--- ---- sends
-
--- one statement, with the sends of its branches in their places
-abbrev pub stmt_sends_step : Stmt-F ℕ ℕ → ℕ
-stmt_sends_step (Stmt-F.Send message values to) = 1
-stmt_sends_step (Stmt-F.If branches) = sum branches
-stmt_sends_step (Stmt-F.Loop count branches) = count * sum branches
-stmt_sends_step _ = 0
-
-abbrev pub branch_sends_step : Branch-F ℕ ℕ → ℕ
-branch_sends_step b = sum b.body
-
-abbrev pub stmt_sends : Stmt → ℕ
-stmt_sends = fold-Stmt ℕ ℕ stmt_sends_step branch_sends_step
-
-abbrev pub branch_sends : Branch → ℕ
-branch_sends = fold-Branch ℕ ℕ stmt_sends_step branch_sends_step
-
-abbrev pub body_sends : List Stmt → ℕ
-body_sends stmts = sum (map stmt_sends stmts)
-
-abbrev pub action_sends : Action → ℕ
-action_sends a = body_sends a.body

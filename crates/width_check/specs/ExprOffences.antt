@@ -1,5 +1,5 @@
 -- How an expression is judged: its interval, where it has one, and the offences within it, operands before operations.
-use Rattle.std.specs.Prelude.{ℕ, pos, ◌-ℤ◌, Bool, true, false, not, ◌&&◌, if◌then◌else◌, int_le, List, [], ◌++◌, Option, Some, None, option_and_then, slice_get}
+use Rattle.std.specs.Prelude.{ℕ, Bool, true, false, not, ◌&&◌, if◌then◌else◌, int_le, List, [], ◌++◌, Option, Some, None, option_and_then, slice_get}
 use Rattle.std.specs.Option.{option_map}
 use Rattle.tap_base.specs.declared.place.Place.{Place}
 use Rattle.tap_base.specs.declared.place.Range.{Range}
@@ -11,7 +11,7 @@ use Rattle.tap_base.specs.declared.tree.ExprKind.TheFolds.{fold-Expr}
 use Rattle.tap_base.specs.declared.tree.ExprKind.TheOpen.{ExprKind-F, Expr-F}
 use Rattle.tap_base.specs.declared.tree.Op.{Op}
 use Rattle.tap_base.specs.declared.tree.Op.TheVariants.{Div, Mod}
-use Rattle.tap_base.specs.Interval.{bounded, from_to, has_zero, negation_range, operation_range, truth_range}
+use Rattle.tap_base.specs.Interval.{bounded, has_zero, index_range, negation_range, operation_range, truth_range}
 use Rattle.tap_base.specs.Offences.{offence, where_}
 use Rattle.tap_base.specs.Scope.{Scope}
 
@@ -47,10 +47,6 @@ where_none None c p = offence c p
 where_none (Some a) c p = []
 
 -- ---- operations
-
--- the places of an array of so many elements, counted from 0
-abbrev pub index_range : ℕ → Range
-index_range length = from_to (pos 0) (pos length -ℤ pos 1)
 
 -- those of an index, and then whether it stays within its array
 abbrev pub index_offences : ℕ → Judged → List Refusal

@@ -5,3 +5,4 @@ pub mod IsChecked
 pub mod Offences
 pub mod StmtOffences
 pub mod inner
+pub mod Worked

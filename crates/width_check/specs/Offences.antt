@@ -11,7 +11,8 @@ use Rattle.tap_base.specs.declared.system.Process.{Process}
 use Rattle.tap_base.specs.declared.system.System.{System}
 use Rattle.tap_base.specs.Offences.{where_}
 use Rattle.tap_base.specs.Scope.{Scope, scope_of}
-use Rattle.width_check.specs.Cost.{action_cost, action_sends}
+use Rattle.tap_base.specs.Sends.{action_sends}
+use Rattle.width_check.specs.Cost.{action_cost}
 use Rattle.width_check.specs.ExprOffences.{expr_offences}
 use Rattle.width_check.specs.StmtOffences.{body_offences}
 

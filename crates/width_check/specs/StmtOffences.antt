@@ -1,6 +1,5 @@
 -- The offences of statements, in text order.
-use Rattle.std.specs.Prelude.{ℕ, ◌^◌, ◌-ℤ◌, pos, List, [], ◌∷◌, ◌++◌, flat_map, map, slice_get, Option, Some, None}
-use Rattle.tap_base.specs.declared.place.Range.{Range}
+use Rattle.std.specs.Prelude.{ℕ, List, [], ◌∷◌, ◌++◌, flat_map, map, slice_get, Option, Some, None}
 use Rattle.tap_base.specs.declared.refusal.Refusal.{Refusal}
 use Rattle.tap_base.specs.declared.refusal.RefusalCode.TheVariants.{W1, W5}
 use Rattle.tap_base.specs.declared.system.Field.{Field}
@@ -11,7 +10,7 @@ use Rattle.tap_base.specs.declared.tree.Stmt.{Stmt}
 use Rattle.tap_base.specs.declared.tree.Stmt.TheFolds.{fold-Stmt, fold-Branch}
 use Rattle.tap_base.specs.declared.tree.Stmt.TheOpen.{Stmt-F, Branch-F}
 use Rattle.tap_base.specs.declared.tree.Target.{Target}
-use Rattle.tap_base.specs.Interval.{from_to}
+use Rattle.tap_base.specs.Interval.{delay_range}
 use Rattle.tap_base.specs.ListWords.{joined}
 use Rattle.tap_base.specs.Scope.{Scope, fields_of, free_fields, value_range}
 use Rattle.width_check.specs.ExprOffences.{Judged, expr_offences, index_offences, judged, where_wider}
@@ -51,10 +50,6 @@ abbrev pub sent_fields : List Message → ℕ → List Field
 sent_fields messages m = free_fields (fields_of (slice_get messages m))
 
 -- ---- delays
-
--- at most 4,294,967,295 milliseconds
-abbrev pub delay_range : Range
-delay_range = from_to (pos 0) (pos (2 ^ 32) -ℤ pos 1)
 
 abbrev pub delay_offences : Judged → List Refusal
 delay_offences delay = delay.offences ++ where_wider delay.interval delay_range W5 delay.place

@@ -2,4 +2,3 @@ pub mod Answering
 pub mod Capped
 pub mod Judging
 pub mod Reading
-pub mod Remainders

@@ -4,6 +4,7 @@ ghost use Rattle.std.specs.Prelude.{◌≡◌, nat_lt};
 ghost use Rattle.tap_base.specs.Lists.{Each};
 ghost use Rattle.tap_base.specs.Offences.{Clears};
 ghost use Rattle.tap_base.specs.Resolved.{IsMessage};
+ghost use Rattle.tap_base.specs.Sends as sends;
 ghost use Rattle.width_check.specs.Cost as costs;
 ghost use Rattle.width_check.specs.Offences as spec;
 ghost use Rattle.width_check.specs.inner.Answering.{Finds, Passes};
@@ -35,7 +36,7 @@ fn costs_too_much(action: &Action) -> bool
 }
 
 fn sends_too_much(action: &Action) -> bool
-    ensures { result ≡ nat_lt spec.most_sends (costs.action_sends action.now) }
+    ensures { result ≡ nat_lt spec.most_sends (sends.action_sends action.now) }
 {
     action_sends(action) > 64
 }

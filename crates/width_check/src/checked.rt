@@ -78,6 +78,15 @@ impl Checked {
         &self.system
     }
 
+    /// The system that was checked, given away.
+    pub fn into_system(self) -> System
+        ensures system { result ≡ self }
+        ensures checked { IsChecked self }
+    {
+        let Checked { system } = self;
+        system
+    }
+
     /// The greatest cost of the actions of a process that there is, or 0 where it has none.
     pub fn cost(&self, process: u32) -> u32
         requires { process < length self.now.processes }

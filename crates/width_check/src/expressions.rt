@@ -34,7 +34,7 @@ fn truth_range(a: Option<Range>) -> Option<Range>
 
 /// That an index, where it has an interval, stays within its array.
 pub(crate) fn hold_index(index: Option<Range>, length: u32, place: Place) -> Result<(), Refusal>
-    ensures { Clears (spec.where_wider index (spec.index_range length) W3 place) result }
+    ensures { Clears (spec.where_wider index (interval.index_range length) W3 place) result }
 {
     let range = Range {
         lo: 0,

@@ -7,10 +7,6 @@ ghost use Rattle.tap_base.specs.Offences.{Clears};
 ghost use Rattle.width_check.specs.ExprOffences as spec;
 ghost use Rattle.width_check.specs.inner.Judging.{Bounds};
 
-use crate::range::{
-    difference_range, has_zero, max_range, min_range, negation_range, product_range,
-    quotient_range, remainder_range, sum_range,
-};
 use tap_base::{Op, Place, Range, Refusal, RefusalCode};
 
 pub(crate) fn refusal(code: RefusalCode, place: Place) -> Refusal
@@ -30,13 +26,13 @@ fn operation_range(op: Op, a: Range, b: Range) -> Option<Range>
     ensures { result ≡ interval.operation_range op a b }
 {
     match op {
-        Op::Add => sum_range(a, b),
-        Op::Sub => difference_range(a, b),
-        Op::Mul => product_range(a, b),
-        Op::Div => quotient_range(a, b),
-        Op::Mod => remainder_range(a, b),
-        Op::Min => min_range(a, b),
-        Op::Max => max_range(a, b),
+        Op::Add => a.add(b),
+        Op::Sub => a.sub(b),
+        Op::Mul => a.mul(b),
+        Op::Div => a.div(b),
+        Op::Mod => a.rem(b),
+        Op::Min => a.min(b),
+        Op::Max => a.max(b),
         _ => Some(truths()),
     }
 }
@@ -44,7 +40,7 @@ fn operation_range(op: Op, a: Range, b: Range) -> Option<Range>
 pub(crate) fn negation(a: Option<Range>) -> Option<Range>
     ensures { result ≡ option_and_then interval.negation_range a }
 {
-    negation_range(a?)
+    a?.neg()
 }
 
 pub(crate) fn operation(op: Op, a: Option<Range>, b: Option<Range>) -> Option<Range>
@@ -68,7 +64,7 @@ pub(crate) fn negate(a: Option<Range>, place: Place) -> Result<Option<Range>, Re
 {
     match a {
         None => Ok(None),
-        Some(a) => found(negation_range(a), place),
+        Some(a) => found(a.neg(), place),
     }
 }
 
@@ -97,7 +93,7 @@ pub(crate) fn operate(
     let Some(b) = b else {
         return Ok(None);
     };
-    if is_division(op) && has_zero(b) {
+    if is_division(op) && b.has_zero() {
         return Err(refusal(RefusalCode::W2, divisor));
     }
     found(operation_range(op, a, b), place)

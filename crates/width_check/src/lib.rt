@@ -1,5 +1,5 @@
 //! The check of a resolved system: no value leaves its width, no divisor may be 0, no index leaves
-//! its array, and no action costs or sends too much. The intervals of operations stand here too.
+//! its array, and no action costs or sends too much.
 #![tactic(auto)]
 
 mod actions;
@@ -9,16 +9,13 @@ mod counts;
 mod expressions;
 mod fault;
 mod intervals;
-mod range;
 mod reads;
 mod sendings;
 mod sends;
 mod simple;
 mod statements;
+mod worked;
 
 pub use checked::{Checked, check};
 pub use fault::WidthFault;
-pub use range::{
-    difference_range, max_range, min_range, negation_range, product_range, quotient_range,
-    remainder_range, sum_range,
-};
+pub use worked::widths_are_worked;

@@ -1,7 +1,7 @@
 //! How many sends statements make at most.
 
 ghost use Rattle.std.specs.Prelude.{◌≡◌, map, sum};
-ghost use Rattle.width_check.specs.Cost as spec;
+ghost use Rattle.tap_base.specs.Sends as spec;
 ghost use Rattle.width_check.specs.inner.Capped.{capped};
 
 use crate::counts::{plus, times};

@@ -1,3 +1,5 @@
+pub mod Cursors
 pub mod Labels
+pub mod LaidOut
 pub mod Lines
 pub mod Turns

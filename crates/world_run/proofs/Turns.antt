@@ -5,6 +5,7 @@ use Rattle.std.specs.List.{list_any}
 use Rattle.std.proofs.lemmas.List.{length-map, take_all}
 use Rattle.std.proofs.lemmas.Option.{slice_get-map}
 use Rattle.tap_base.specs.Lists.{Each}
+use Rattle.tap_base.proofs.ListFacts.{element_at}
 use Rattle.tap_base.specs.declared.system.Process.{Process}
 use Rattle.tap_base.specs.declared.system.System.{System}
 use Rattle.tap_exec.specs.declared.running.Outgoing.{Outgoing}
@@ -13,7 +14,10 @@ use Rattle.abstract_run.specs.Calm.{IsCalm}
 use Rattle.abstract_run.specs.CellCount.{cells_in}
 use Rattle.abstract_run.specs.Channels.{error_waits, has_error_for, is_error}
 use Rattle.abstract_run.specs.Progress.{CanTurn, IsPossible}
-use Rattle.abstract_run.specs.Run.{AllChooseFirst, ChoosesFirst, state_after}
+use Rattle.guard_scheduler.specs.Cursor.{Cursor}
+use Rattle.exact_choice.specs.Choice.{AllChoose, Chooses}
+use Rattle.exact_choice.specs.Moments.{moments}
+use Rattle.abstract_run.specs.Run.{state_after}
 use Rattle.abstract_run.specs.Semantics.{Semantics, messages_of, semantics_of, process_semantics}
 use Rattle.abstract_run.specs.Step.{step}
 use Rattle.abstract_run.specs.declared.label.Event.{Event}
@@ -70,17 +74,26 @@ one_label m s t l sends h = rw h refl
 two_labels : (m : Semantics) (s t u : State) (k l : Label) (xs ys : List Outgoing) → step m s k ≡ Some (t, xs) → step m t l ≡ Some (u, ys) → state_after m s (k ∷ l ∷ []) ≡ Some u
 two_labels m s t u k l xs ys h i = rw (h, i) refl
 
-ends : (m : Semantics) (s : State) (p actions : ℕ) (l : Label) → IsNext m s p actions l → EndsTurn p 0 (l ∷ [])
-ends m s p actions l (act small enabled first) = ran
-ends m s p actions l (stays_idle first) = idle (lit< tt)
+ends : (m : Semantics) (s : State) (p actions : ℕ) (old new : List Cursor) (l : Label) → IsNext m s p actions old new l → EndsTurn p 0 (l ∷ [])
+ends m s p actions old new l (act small x) = ran
+ends m s p actions old new l (stays_idle first same) = idle (lit< tt)
 
-chooses : (m : Semantics) (s : State) (p actions : ℕ) (l : Label) → IsNext m s p actions l → ChoosesFirst m s l
-chooses m s p actions l (act small enabled first) = first
-chooses m s p actions l (stays_idle first) = tt
+-- ---- what is chosen
 
-two_choose : (m : Semantics) (s t : State) (p c : ℕ) (l : Label) (xs : List Outgoing) → step m s (label.Tick p c) ≡ Some (t, xs) → ChoosesFirst m t l → AllChooseFirst m s (label.Tick p c ∷ l ∷ [])
-two_choose m s t p c l xs h first =
-    (tt, λ u e. let k = one_label m s t (label.Tick p c) xs h in let same : t ≡ u = cc in (subst (λ x. ChoosesFirst m x l) same first, λ v f. tt))
+one_moment : (m : Semantics) (s t : State) (l : Label) (sends : List Outgoing) → step m s l ≡ Some (t, sends) → moments m s (l ∷ []) ≡ (s, l) ∷ []
+one_moment m s t l sends h = rw h refl
+
+two_moments : (m : Semantics) (s t u : State) (k l : Label) (xs ys : List Outgoing) → step m s k ≡ Some (t, xs) → step m t l ≡ Some (u, ys) → moments m s (k ∷ l ∷ []) ≡ (s, k) ∷ (t, l) ∷ []
+two_moments m s t u k l xs ys h i = rw (h, i) refl
+
+chooses : (m : Semantics) (s : State) (p actions : ℕ) (old new : List Cursor) (l : Label) → IsNext m s p actions old new l → Chooses m (s, l) old new
+chooses m s p actions old new l (act small x) = x
+chooses m s p actions old new l (stays_idle first same) = same
+
+-- a reading, and then what comes next
+two_choose : (m : Semantics) (s t u : State) (p c : ℕ) (l : Label) (xs ys : List Outgoing) (old new : List Cursor) → step m s (label.Tick p c) ≡ Some (t, xs) → step m t l ≡ Some (u, ys)
+    → Chooses m (t, l) old new → AllChoose m (moments m s (label.Tick p c ∷ l ∷ [])) old new
+two_choose m s t u p c l xs ys old new h i x = subst (λ ms. AllChoose m ms old new) (sym (two_moments m s t u (label.Tick p c) l xs ys h i)) (old, refl, (new, x, refl))
 
 -- ---- lines
 
@@ -91,19 +104,19 @@ all_out s sends h = rw h (take_all (length sends - 0) sends (omega arith))
 -- ---- turns
 
 -- what comes next is possible
-next_possible : (semantics : Semantics) (s : State) (p actions : ℕ) (l : Label) → CanTurn semantics s p actions → IsNext semantics s p actions l → IsPossible semantics s l
-next_possible semantics s p actions l can (act small enabled first) = can.acts _ enabled
-next_possible semantics s p actions l can (stays_idle first) = can.idles first
+next_possible : (semantics : Semantics) (s : State) (p actions : ℕ) (old new : List Cursor) (l : Label) → CanTurn semantics s p actions → IsNext semantics s p actions old new l → IsPossible semantics s l
+next_possible semantics s p actions old new l can (act small x) = can.acts _ x.next.first.wanted
+next_possible semantics s p actions old new l can (stays_idle first same) = can.idles first
 
-next_sized : (semantics : Semantics) (s : State) (p actions n : ℕ) (l : Label) → p < n → IsNext semantics s p actions l → IsSized n l
-next_sized semantics s p actions n l there (act small enabled first) = (there, small, tt)
-next_sized semantics s p actions n l there (stays_idle first) = there
+next_sized : (semantics : Semantics) (s : State) (p actions n : ℕ) (old new : List Cursor) (l : Label) → p < n → IsNext semantics s p actions old new l → IsSized n l
+next_sized semantics s p actions n old new l there (act small x) = (there, small, tt)
+next_sized semantics s p actions n old new l there (stays_idle first same) = there
 
 -- a reading and what comes next are a turn
-turn_served : {semantics : Semantics} {s t u : State} {p actions c : ℕ} {l : Label} {before middle after : List ℕ} → IsSteady semantics s → IsSteady semantics t → IsSteady semantics u
-    → p < length semantics.processes → c < 2 ^ 64 → Did semantics (label.Tick p c) s t before middle → IsNext semantics t p actions l → Did semantics l t u middle after
-    → Served semantics (event.Turn p c) s u before after
-turn_served {semantics = semantics} {s = s} {t = t} {u = u} {p = p} {actions = actions} {c = c} {l = l} {before = before} {middle = middle} {after = after} steady then last there short tick next done = record {
+turn_served : {semantics : Semantics} {s t u : State} {p actions c : ℕ} {cursors later : List Cursor} {l : Label} {before middle after : List ℕ} → IsSteady semantics s → IsSteady semantics t → IsSteady semantics u
+    → p < length semantics.processes → c < 2 ^ 64 → Did semantics (label.Tick p c) s t before middle → IsNext semantics t p actions cursors later l → Did semantics l t u middle after
+    → Served semantics (event.Turn p c) s u cursors later before after
+turn_served {semantics = semantics} {s = s} {t = t} {u = u} {p = p} {actions = actions} {c = c} {cursors = cursors} {later = later} {l = l} {before = before} {middle = middle} {after = after} steady then last there short tick next done = record {
   labels = label.Tick p c ∷ l ∷ [];
   serves = record {
     segment = live_turn semantics s p c _ steady there (record {
@@ -114,29 +127,23 @@ turn_served {semantics = semantics} {s = s} {t = t} {u = u} {p = p} {actions = a
       rejected = one_label semantics s t (label.Tick p c) tick.sends tick.ran;
       clean = λ few. no_error p t.channels then.calm.sound;
       last = l ∷ [];
-      ends = ends semantics t p actions l next;
+      ends = ends semantics t p actions cursors later l next;
       whole = refl;
     });
     ran = two_labels semantics s t u (label.Tick p c) l tick.sends done.sends tick.ran done.ran;
     settled = last.calm.settled;
   };
-  first = two_choose semantics s t p c l tick.sends tick.ran (chooses semantics t p actions l next);
-  sized = ((there, short), (next_sized semantics t p actions (length semantics.processes) l there next, tt));
+  chosen = two_choose semantics s t u p c l tick.sends done.sends cursors later tick.ran done.ran (chooses semantics t p actions cursors later l next);
+  sized = ((there, short), (next_sized semantics t p actions (length semantics.processes) cursors later l there next, tt));
   wrote = wrote_more semantics s t (label.Tick p c ∷ []) (l ∷ []) before middle after (one_label semantics s t (label.Tick p c) tick.sends tick.ran) tick.wrote done.wrote;
 }
 
--- an element that is there
-element_at : {A : Type 0} (xs : List A) (k : ℕ) → k < length xs → (x : A) × (slice_get xs k ≡ Some x)
-element_at [] k h = absurd (omega arith)
-element_at (x ∷ xs) zero h = (x, refl)
-element_at (x ∷ xs) (suc k) h = element_at xs k (omega (arith, h))
-
 -- what a system says of a process that is there
-said_at : (system : System) (p : ℕ) (process : Process) → slice_get system.processes p ≡ Some process
+pub said_at : (system : System) (p : ℕ) (process : Process) → slice_get system.processes p ≡ Some process
     → slice_get (semantics_of system).processes p ≡ Some (process_semantics (messages_of system) process)
 said_at system p process h = slice_get-map (process_semantics (messages_of system)) system.processes p ∙ ap (option_map (process_semantics (messages_of system))) h
 
-as_many : (system : System) (process : Process) → length (process_semantics (messages_of system) process).actions ≡ length process.actions
+pub as_many : (system : System) (process : Process) → length (process_semantics (messages_of system) process).actions ≡ length process.actions
 as_many system process = length-map process.actions _
 
 -- what a process that is there can do
@@ -147,9 +154,9 @@ can_turn system s p process runnable steady room h =
     (turns_go_on (semantics_of system) s p (process_semantics (messages_of system) process) runnable.safe.keeps runnable.unchosen steady.fits steady.calm room (said_at system p process h))
 
 -- what comes next in a process that is there
-next_at : (system : System) (semantics : Semantics) (s : State) (p : ℕ) (l : Label) (process : Process) → slice_get system.processes p ≡ Some process → IsNextOf system semantics s p l
-    → IsNext semantics s p (length process.actions) l
-next_at system semantics s p l process e h = subst (λ o. IfSome (option_map (λ x. length x.actions) o) (λ n. IsNext semantics s p n l)) e h
+next_at : (system : System) (semantics : Semantics) (s : State) (p : ℕ) (old new : List Cursor) (l : Label) (process : Process) → slice_get system.processes p ≡ Some process
+    → IsNextOf system semantics s p old new l → IsNext semantics s p (length process.actions) old new l
+next_at system semantics s p old new l process e h = subst (λ o. IfSome (option_map (λ x. length x.actions) o) (λ n. IsNext semantics s p n old new l)) e h
 
 -- in a steady state a process can take a reading
 pub reading_possible : (system : System) (s : State) (p c : ℕ) → IsRunnable system → IsSteady (semantics_of system) s → cells_in s + 64 ≤ 4294967295 → p < length system.processes
@@ -159,24 +166,24 @@ reading_possible system s p c runnable steady room there =
     (can_turn system s p f.0 runnable steady room f.1).reads c
 
 -- and then do what comes next
-pub following_possible : (system : System) (s : State) (p : ℕ) (l : Label) → IsRunnable system → IsSteady (semantics_of system) s → cells_in s + 64 ≤ 4294967295 → p < length system.processes
-    → IsNextOf system (semantics_of system) s p l → IsPossible (semantics_of system) s l
-following_possible system s p l runnable steady room there h =
+pub following_possible : (system : System) (s : State) (p : ℕ) (old new : List Cursor) (l : Label) → IsRunnable system → IsSteady (semantics_of system) s → cells_in s + 64 ≤ 4294967295
+    → p < length system.processes → IsNextOf system (semantics_of system) s p old new l → IsPossible (semantics_of system) s l
+following_possible system s p old new l runnable steady room there h =
     let f = element_at system.processes p there in
-    next_possible (semantics_of system) s p (length f.0.actions) l (can_turn system s p f.0 runnable steady room f.1) (next_at system (semantics_of system) s p l f.0 f.1 h)
+    next_possible (semantics_of system) s p (length f.0.actions) old new l (can_turn system s p f.0 runnable steady room f.1) (next_at system (semantics_of system) s p old new l f.0 f.1 h)
 
-on_ok : {T E : Type 0} {P Q : Type 0} (r : Result T E) → (P → Q) → OnOk r P → OnOk r Q
+pub on_ok : {T E : Type 0} {P Q : Type 0} (r : Result T E) → (P → Q) → OnOk r P → OnOk r Q
 on_ok (Ok x) f h = f h
 on_ok (Err e) f h = tt
 
 -- a reading was done, and perhaps what comes next
-pub turn_done : {T E : Type 0} {system own : System} {s t u : State} {p c : ℕ} {before middle : List ℕ} (r : Result T E) (l : Label) (after : List ℕ) → own ≡ system
+pub turn_done : {T E : Type 0} {system own : System} {s t u : State} {p c : ℕ} {before middle : List ℕ} (r : Result T E) (l : Label) (cursors later : List Cursor) (after : List ℕ) → own ≡ system
     → IsSteady (semantics_of system) s → IsSteady (semantics_of system) t → IsSteady (semantics_of own) u → p < length system.processes → c < 2 ^ 64
-    → Did (semantics_of system) (label.Tick p c) s t before middle → IsNextOf own (semantics_of own) t p l
-    → OnOk r (Did (semantics_of own) l t u middle after) → OnOk r (Served (semantics_of system) (event.Turn p c) s u before after)
-turn_done {system = system} {own = own} {s = s} {t = t} {u = u} {p = p} {middle = middle} r l after same steady then last there short tick next done =
+    → Did (semantics_of system) (label.Tick p c) s t before middle → IsNextOf own (semantics_of own) t p cursors later l
+    → OnOk r (Did (semantics_of own) l t u middle after) → OnOk r (Served (semantics_of system) (event.Turn p c) s u cursors later before after)
+turn_done {system = system} {own = own} {s = s} {t = t} {u = u} {p = p} {middle = middle} r l cursors later after same steady then last there short tick next done =
     let f = element_at system.processes p there in
-    let follows = next_at system (semantics_of system) t p l f.0 f.1 (subst (λ x. IsNextOf x (semantics_of x) t p l) same next) in
+    let follows = next_at system (semantics_of system) t p cursors later l f.0 f.1 (subst (λ x. IsNextOf x (semantics_of x) t p cursors later l) same next) in
     let said : p < length (semantics_of system).processes = omega (arith, there, length-map system.processes (process_semantics (messages_of system))) in
     on_ok r (λ d. turn_served steady then (subst (λ x. IsSteady (semantics_of x) u) same last) said short tick follows (subst (λ x. Did (semantics_of x) l t u middle after) same d)) done
 
@@ -197,35 +204,46 @@ void_or_done {semantics = semantics} {s = s} {t = t} {before = before} {after = 
   void_is : (m : Semantics) (s : State) (l : Label) → step m s l ≡ None → or_void m s l ≡ label.Void
   void_is m s l e = rw e refl
 
+-- it is no action, so it leaves the cursors
+abbrev IsNoAct : Label → Type 0
+IsNoAct (label.Act p a choices) = ⊥
+IsNoAct _ = Unit {0}
+
+no_choice : (m : Semantics) (s : State) (l : Label) (cursors : List Cursor) → IsNoAct l → Chooses m (s, l) cursors cursors
+no_choice m s (label.Act p a choices) cursors h = absurd h
+no_choice m s _ cursors h = refl
+
 -- one label is the segment of an event
-one_served : {semantics : Semantics} {s t : State} {before after : List ℕ} (e : Event) (l : Label) → IsSegment semantics s e (l ∷ []) → ChoosesFirst semantics s l
-    → IsSized (length semantics.processes) l → t.falling ≡ None → Did semantics l s t before after → Served semantics e s t before after
-one_served {semantics = semantics} {s = s} {t = t} e l is first sized settled d = record {
+one_served : {semantics : Semantics} {s t : State} {before after : List ℕ} (e : Event) (l : Label) (cursors : List Cursor) → IsSegment semantics s e (l ∷ []) → IsNoAct l
+    → IsSized (length semantics.processes) l → t.falling ≡ None → Did semantics l s t before after → Served semantics e s t cursors cursors before after
+one_served {semantics = semantics} {s = s} {t = t} e l cursors is still sized settled d = record {
   labels = l ∷ [];
   serves = record { segment = is; ran = one_label semantics s t l d.sends d.ran; settled = settled };
-  first = (first, λ u e. tt);
+  chosen = subst (λ ms. AllChoose semantics ms cursors cursors) (sym (one_moment semantics s t l d.sends d.ran)) (cursors, no_choice semantics s l cursors still, refl);
   sized = (sized, tt);
   wrote = d.wrote;
 }
 
-no_act : (m : Semantics) (s : State) (l : Label) (b : Bool) → ChoosesFirst m s l → ChoosesFirst m s (cond b l label.Void)
-no_act m s l true h = h
-no_act m s l false h = tt
+no_act : (l : Label) (b : Bool) → IsNoAct l → IsNoAct (cond b l label.Void)
+no_act l true h = h
+no_act l false h = tt
 
 void_sized : (n : ℕ) (l : Label) (b : Bool) → IsSized n l → IsSized n (cond b l label.Void)
 void_sized n l true h = h
 void_sized n l false h = tt
 
 -- a datagram arrived, or none was in flight
-pub arrival_served : {semantics : Semantics} {s t : State} (q p : ℕ) {before after : List ℕ} → IsSteady semantics t → AreTwo (length semantics.processes) q p
-    → DidOrVoid semantics (label.Arrive q p) s t before after → Served semantics (event.Arrive q p) s t before after
-arrival_served {semantics = m} {s = s} q p steady two d =
+pub arrival_served : {semantics : Semantics} {s t : State} {cursors later : List Cursor} (q p : ℕ) {before after : List ℕ} → later ≡ cursors → IsSteady semantics t → AreTwo (length semantics.processes) q p
+    → DidOrVoid semantics (label.Arrive q p) s t before after → Served semantics (event.Arrive q p) s t cursors later before after
+arrival_served {semantics = m} {s = s} {t = t} {cursors = cursors} q p {before = before} {after = after} same steady two d =
     let b = is_some (step m s (label.Arrive q p)) in
-    one_served (event.Arrive q p) (or_void m s (label.Arrive q p)) refl (no_act m s (label.Arrive q p) b tt) (void_sized _ (label.Arrive q p) b (two.0, two.1)) steady.calm.settled d
+    subst (λ cs. Served m (event.Arrive q p) s t cursors cs before after) (sym same)
+    (one_served (event.Arrive q p) (or_void m s (label.Arrive q p)) cursors refl (no_act (label.Arrive q p) b tt) (void_sized _ (label.Arrive q p) b (two.0, two.1)) steady.calm.settled d)
 
 -- a datagram was lost, or none was in flight at the place
-pub loss_served : {semantics : Semantics} {s t : State} (q p i : ℕ) {before after : List ℕ} → IsSteady semantics t → AreTwo (length semantics.processes) q p → i < 2 ^ 32
-    → DidOrVoid semantics (label.Lose q p i) s t before after → Served semantics (event.Lose q p i) s t before after
-loss_served {semantics = m} {s = s} q p i steady two short d =
+pub loss_served : {semantics : Semantics} {s t : State} {cursors later : List Cursor} (q p i : ℕ) {before after : List ℕ} → later ≡ cursors → IsSteady semantics t → AreTwo (length semantics.processes) q p → i < 2 ^ 32
+    → DidOrVoid semantics (label.Lose q p i) s t before after → Served semantics (event.Lose q p i) s t cursors later before after
+loss_served {semantics = m} {s = s} {t = t} {cursors = cursors} q p i {before = before} {after = after} same steady two short d =
     let b = is_some (step m s (label.Lose q p i)) in
-    one_served (event.Lose q p i) (or_void m s (label.Lose q p i)) refl (no_act m s (label.Lose q p i) b tt) (void_sized _ (label.Lose q p i) b (two.0, two.1, short)) steady.calm.settled d
+    subst (λ cs. Served m (event.Lose q p i) s t cursors cs before after) (sym same)
+    (one_served (event.Lose q p i) (or_void m s (label.Lose q p i)) cursors refl (no_act (label.Lose q p i) b tt) (void_sized _ (label.Lose q p i) b (two.0, two.1, short)) steady.calm.settled d)

@@ -1,3 +1,4 @@
+pub mod Layouts
 pub mod Names
 pub mod Served
 pub mod inner

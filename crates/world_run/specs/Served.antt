@@ -4,11 +4,13 @@ use Rattle.tap_base.specs.Lists.{Each}
 use Rattle.abstract_run.specs.Answers.{Serves}
 use Rattle.abstract_run.specs.Calm.{IsCalm}
 use Rattle.abstract_run.specs.Fits.{Fits}
-use Rattle.abstract_run.specs.Run.{AllChooseFirst}
 use Rattle.abstract_run.specs.Semantics.{Semantics}
 use Rattle.abstract_run.specs.declared.label.Event.{Event}
 use Rattle.abstract_run.specs.declared.label.Label.{Label}
 use Rattle.abstract_run.specs.declared.state.State.{State}
+use Rattle.guard_scheduler.specs.Cursor.{Cursor}
+use Rattle.exact_choice.specs.Choice.{AllChoose}
+use Rattle.exact_choice.specs.Moments.{moments}
 use Rattle.run_text.specs.Sized.{IsSized}
 use Rattle.run_text.specs.TraceText.{lines_text, run_lines}
 
@@ -24,10 +26,10 @@ pub record WroteLines (semantics : Semantics) (s : State) (labels : List Label) 
   pub told : after ≡ before ++ lines_text lines
 
 -- One event was served: its labels are a segment, run from one state to the next, and their lines were written behind a
--- text. The action that runs is the first enabled one of its process.
-pub record Served (semantics : Semantics) (event : Event) (old new : State) (before after : List ℕ) : Type 0 where
+-- text. The action that runs is the first enabled one of its process in cyclic order from its cursor, which goes on.
+pub record Served (semantics : Semantics) (event : Event) (old new : State) (cursors later : List Cursor) (before after : List ℕ) : Type 0 where
   pub labels : List Label
   pub serves : Serves semantics old event labels new
-  pub first : AllChooseFirst semantics old labels
+  pub chosen : AllChoose semantics (moments semantics old labels) cursors later
   pub sized : Each (IsSized (length semantics.processes)) labels
   pub wrote : WroteLines semantics old labels before after

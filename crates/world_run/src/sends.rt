@@ -1,16 +1,21 @@
 //! The lines of what an action sent, written into a text.
 
-ghost use Rattle.std.specs.Prelude.{◌≡◌, ◌≤◌, [], ◌∷◌, ◌++◌, OnOk, string_bytes};
+ghost use Rattle.std.specs.Prelude.{◌≡◌, [], ◌∷◌, OnOk, string_bytes};
 ghost use Rattle.tap_base.specs.Lists.{Each};
 ghost use Rattle.abstract_run.specs.Messages.{AreValuesOf};
 ghost use Rattle.abstract_run.specs.Semantics.{messages_of, semantics_of};
 ghost use Rattle.run_text.specs.TraceText.{names_in};
+ghost use Rattle.world_run.specs.Layouts.{IsLayoutOf};
 ghost use Rattle.world_run.specs.inner.Serving.{Wrote, sends_text};
 
-use abstract_run::{Outgoing, spell};
+use crate::world::World;
+use abstract_run::Outgoing;
+use bit_codec::encode_into;
 use run_text::{Names, write_sent};
-use std::alloc::Global;
-use tap_base::{NoMemory, System};
+use tap_base::NoMemory;
+
+/// How many bytes a message has at most.
+const MOST_BYTES: usize = 1024;
 
 /// Appends the lines of datagrams, in order.
 ///
@@ -18,36 +23,40 @@ use tap_base::{NoMemory, System};
 ///
 /// `NoMemory`; the text may then have a front of the lines.
 pub(crate) fn write_sends(
-    alloc: Global,
     text: &mut String,
-    system: &System,
+    world: &World,
     names: &Names,
     sends: &[Outgoing],
 ) -> Result<(), NoMemory>
-    requires named { names.now.processes ≡ names_in (semantics_of system.now) }
-    requires narrow { Each (λ m. Each (λ f. f.width ≤ 63) m.fields) system.now.messages }
-    requires fit { Each (λ o. AreValuesOf (messages_of system.now) o.message o.values) sends.now }
-    ensures { OnOk result (Wrote (sends_text (semantics_of system.now) sends.now) (string_bytes text.old) (string_bytes text.new)) }
+    requires named { names.now.processes ≡ names_in (semantics_of world.now.system) }
+    requires layout { IsLayoutOf world.now.system world.now.layout }
+    requires fit { Each (λ o. AreValuesOf (messages_of world.now.system) o.message o.values) sends.now }
+    ensures { OnOk result (Wrote (sends_text (semantics_of world.now.system) sends.now) (string_bytes text.old) (string_bytes text.new)) }
 {
     for send in sends {
-        write_send(alloc, text, system, names, send)?;
+        write_send(text, world, names, send)?;
     }
     Ok(())
 }
 
 /// Appends the line of a datagram.
 fn write_send(
-    alloc: Global,
     text: &mut String,
-    system: &System,
+    world: &World,
     names: &Names,
     send: &Outgoing,
 ) -> Result<(), NoMemory>
-    requires named { names.now.processes ≡ names_in (semantics_of system.now) }
-    requires narrow { Each (λ m. Each (λ f. f.width ≤ 63) m.fields) system.now.messages }
-    requires fit { AreValuesOf (messages_of system.now) send.now.message send.now.values }
-    ensures { OnOk result (Wrote (sends_text (semantics_of system.now) (send.now ∷ [])) (string_bytes text.old) (string_bytes text.new)) }
+    requires named { names.now.processes ≡ names_in (semantics_of world.now.system) }
+    requires layout { IsLayoutOf world.now.system world.now.layout }
+    requires fit { AreValuesOf (messages_of world.now.system) send.now.message send.now.values }
+    ensures { OnOk result (Wrote (sends_text (semantics_of world.now.system) (send.now ∷ [])) (string_bytes text.old) (string_bytes text.new)) }
 {
-    let bytes = spell(alloc, system, send.message, &send.values)?;
-    write_sent(text, names, send.to, bytes.as_slice())
+    let mut room = [0; MOST_BYTES];
+    let length = encode_into(
+        &world.layout,
+        send.message,
+        send.values.as_slice(),
+        &mut room,
+    );
+    write_sent(text, names, send.to, &room[..length])
 }

@@ -1,20 +1,27 @@
-//! A system, and the state of a run of it.
+//! A system, the state of a run of it, and whose turn it is among the actions of each process.
 
-ghost use Rattle.std.specs.Prelude.{◌≡◌, ◌++◌, ◌+◌, ◌<◌, ◌≤◌, Some, IfOk, OnOk, OnErr, length, string_bytes};
+ghost use Rattle.std.specs.Prelude.{◌≡◌, ◌++◌, ◌+◌, ◌<◌, ◌≤◌, Some, IfOk, IfSome, OnOk, OnErr, length, string_bytes};
+ghost use Rattle.tap_base.specs.Wires.{wire_of};
 ghost use Rattle.abstract_run.specs.CellCount.{cells_in};
 ghost use Rattle.abstract_run.specs.Fits.{InputsFit};
 ghost use Rattle.abstract_run.specs.Opening.{opening_state};
 ghost use Rattle.abstract_run.specs.Progress.{IsPossible};
 ghost use Rattle.abstract_run.specs.Semantics.{semantics_of};
+ghost use Rattle.exact_choice.specs.Choice.{AreCursorsOf, opening_cursors};
 ghost use Rattle.run_text.specs.ScheduleText.{AreTwo, IsListed};
 ghost use Rattle.run_text.specs.TraceText.{last_lines, lines_text};
 ghost use Rattle.abstract_run.specs.Runnable.{IsRunnable};
+ghost use Rattle.world_run.specs.Layouts.{HasLayout, IsLayoutOf};
 ghost use Rattle.world_run.specs.Names.{AreNamesOf};
 ghost use Rattle.world_run.specs.Served.{IsSteady, Served};
-ghost use Rattle.world_run.specs.inner.Serving.{Did, DidOrVoid, IsNextOf, Tried, action_count};
+ghost use Rattle.world_run.specs.inner.Serving.{AreEnabled, Did, DidOrVoid, IsNextOf, Tried, action_count};
 
+use crate::layouts::layout_of;
 use crate::sends::write_sends;
+use crate::turnstiles::{pick, turnstiles_of};
 use abstract_run::{Event, Label, State, StepFault, enabled, init, step};
+use guard_scheduler::Turnstile;
+use message_layout::Layout;
 use run_text::{Names, write_all_vars, write_label};
 use std::alloc::Global;
 use tap_base::{Inputs, List, NoMemory, System};
@@ -24,20 +31,35 @@ use tap_base::{Inputs, List, NoMemory, System};
 pub struct World {
     pub system: System,
     pub state: State,
+    /// One for each process, which says whose turn it is among its actions.
+    pub turnstiles: List<Turnstile>,
+    /// How the messages of the system are written as bytes.
+    pub layout: Layout,
 }
 
 impl World {
-    /// The system in its opening state, with a value for each of its inputs.
+    /// The system in its opening state, with a value for each of its inputs. In each process it is the
+    /// first action's turn.
     pub fn new(alloc: Global, system: System, inputs: &Inputs) -> Result<World, NoMemory>
         requires runnable { IsRunnable system }
         requires inputs { InputsFit (semantics_of system) inputs.now }
+        requires wire { HasLayout (wire_of system) }
         ensures system { IfOk result (λ w. w.system ≡ system) }
         ensures opening { IfOk result (λ w. w.state ≡ opening_state (semantics_of system) inputs.now) }
+        ensures cursors { IfOk result (λ w. w.turnstiles ≡ opening_cursors (semantics_of system)) }
+        ensures layout { IfOk result (λ w. IsLayoutOf w.system w.layout) }
         ensures steady { IfOk result (λ w. IsSteady (semantics_of system) w.state) }
         ensures no_cells { IfOk result (λ w. cells_in w.state ≡ 0) }
     {
         let state = init(alloc, &system, inputs)?;
-        Ok(World { system, state })
+        let turnstiles = turnstiles_of(alloc, &system)?;
+        let layout = layout_of(alloc, &system)?;
+        Ok(World {
+            system,
+            state,
+            turnstiles,
+            layout,
+        })
     }
 
     /// The last lines of a trace: a line for each variable, and the end.
@@ -64,13 +86,17 @@ impl World {
         page: &mut Vec<u8>,
     ) -> Result<(), NoMemory>
         requires runnable { IsRunnable self.old.system }
+        requires layout { IsLayoutOf self.old.system self.old.layout }
         requires names { AreNamesOf (semantics_of self.old.system) names.now }
         requires steady { IsSteady (semantics_of self.old.system) self.old.state }
+        requires cursors { AreCursorsOf (semantics_of self.old.system) self.old.turnstiles }
         requires room { cells_in self.old.state + 128 ≤ 4294967295 }
         requires listed { IsListed (length self.old.system.processes) event.now }
         ensures system { self.new.system ≡ self.old.system }
-        ensures served { OnOk result (Served (semantics_of self.old.system) event.now self.old.state self.new.state page.old.items page.new.items) }
+        ensures layout { self.new.layout ≡ self.old.layout }
+        ensures served { OnOk result (Served (semantics_of self.old.system) event.now self.old.state self.new.state self.old.turnstiles self.new.turnstiles page.old.items page.new.items) }
         ensures steady { OnOk result (IsSteady (semantics_of self.old.system) self.new.state) }
+        ensures cursors { OnOk result (AreCursorsOf (semantics_of self.old.system) self.new.turnstiles) }
         ensures cells { OnOk result (cells_in self.new.state ≤ cells_in self.old.state + 128) }
         ensures page { OnErr result (page.new.items ≡ page.old.items) }
     {
@@ -89,12 +115,15 @@ impl World {
         text: &mut String,
     ) -> Result<(), NoMemory>
         requires runnable { IsRunnable self.old.system }
+        requires layout { IsLayoutOf self.old.system self.old.layout }
         requires names { AreNamesOf (semantics_of self.old.system) names.now }
         requires steady { IsSteady (semantics_of self.old.system) self.old.state }
+        requires cursors { AreCursorsOf (semantics_of self.old.system) self.old.turnstiles }
         requires room { cells_in self.old.state + 128 ≤ 4294967295 }
         requires listed { IsListed (length self.old.system.processes) event.now }
         ensures system { self.new.system ≡ self.old.system }
-        ensures served { OnOk result (Served (semantics_of self.old.system) event.now self.old.state self.new.state (string_bytes text.old) (string_bytes text.new)) }
+        ensures layout { self.new.layout ≡ self.old.layout }
+        ensures served { OnOk result (Served (semantics_of self.old.system) event.now self.old.state self.new.state self.old.turnstiles self.new.turnstiles (string_bytes text.old) (string_bytes text.new)) }
         ensures steady { IsSteady (semantics_of self.old.system) self.new.state }
         ensures cells { cells_in self.new.state ≤ cells_in self.old.state + 128 }
     {
@@ -106,7 +135,7 @@ impl World {
         }
     }
 
-    /// A turn of a process: a reading, and then its first enabled action, or an idle turn.
+    /// A turn of a process: a reading, and then its next enabled action, or an idle turn.
     fn turn(
         &mut self,
         alloc: Global,
@@ -116,17 +145,20 @@ impl World {
         text: &mut String,
     ) -> Result<(), NoMemory>
         requires runnable { IsRunnable self.old.system }
+        requires layout { IsLayoutOf self.old.system self.old.layout }
         requires names { AreNamesOf (semantics_of self.old.system) names.now }
         requires steady { IsSteady (semantics_of self.old.system) self.old.state }
+        requires cursors { AreCursorsOf (semantics_of self.old.system) self.old.turnstiles }
         requires room { cells_in self.old.state + 128 ≤ 4294967295 }
         requires there { process < length self.old.system.processes }
         ensures system { self.new.system ≡ self.old.system }
-        ensures served { OnOk result (Served (semantics_of self.old.system) (Event.Turn process reading) self.old.state self.new.state (string_bytes text.old) (string_bytes text.new)) }
+        ensures layout { self.new.layout ≡ self.old.layout }
+        ensures served { OnOk result (Served (semantics_of self.old.system) (Event.Turn process reading) self.old.state self.new.state self.old.turnstiles self.new.turnstiles (string_bytes text.old) (string_bytes text.new)) }
         ensures steady { IsSteady (semantics_of self.old.system) self.new.state }
         ensures cells { cells_in self.new.state ≤ cells_in self.old.state + 128 }
     {
         self.perform(alloc, names, &Label::Tick { process, reading }, text)?;
-        let next = self.next(alloc, process);
+        let next = self.next(alloc, process)?;
         self.perform(alloc, names, &next, text)
     }
 
@@ -140,11 +172,13 @@ impl World {
         text: &mut String,
     ) -> Result<(), NoMemory>
         requires runnable { IsRunnable self.old.system }
+        requires layout { IsLayoutOf self.old.system self.old.layout }
         requires names { AreNamesOf (semantics_of self.old.system) names.now }
         requires steady { IsSteady (semantics_of self.old.system) self.old.state }
         requires two { AreTwo (length self.old.system.processes) from to }
         ensures system { self.new.system ≡ self.old.system }
-        ensures served { OnOk result (Served (semantics_of self.old.system) (Event.Arrive from to) self.old.state self.new.state (string_bytes text.old) (string_bytes text.new)) }
+        ensures layout { self.new.layout ≡ self.old.layout }
+        ensures served { OnOk result (Served (semantics_of self.old.system) (Event.Arrive from to) self.old.state self.new.state self.old.turnstiles self.new.turnstiles (string_bytes text.old) (string_bytes text.new)) }
         ensures steady { IsSteady (semantics_of self.old.system) self.new.state }
         ensures cells { cells_in self.new.state ≤ cells_in self.old.state + 128 }
     {
@@ -162,11 +196,13 @@ impl World {
         text: &mut String,
     ) -> Result<(), NoMemory>
         requires runnable { IsRunnable self.old.system }
+        requires layout { IsLayoutOf self.old.system self.old.layout }
         requires names { AreNamesOf (semantics_of self.old.system) names.now }
         requires steady { IsSteady (semantics_of self.old.system) self.old.state }
         requires two { AreTwo (length self.old.system.processes) from to }
         ensures system { self.new.system ≡ self.old.system }
-        ensures served { OnOk result (Served (semantics_of self.old.system) (Event.Lose from to place) self.old.state self.new.state (string_bytes text.old) (string_bytes text.new)) }
+        ensures layout { self.new.layout ≡ self.old.layout }
+        ensures served { OnOk result (Served (semantics_of self.old.system) (Event.Lose from to place) self.old.state self.new.state self.old.turnstiles self.new.turnstiles (string_bytes text.old) (string_bytes text.new)) }
         ensures steady { IsSteady (semantics_of self.old.system) self.new.state }
         ensures cells { cells_in self.new.state ≤ cells_in self.old.state + 128 }
     {
@@ -182,10 +218,13 @@ impl World {
         text: &mut String,
     ) -> Result<(), NoMemory>
         requires runnable { IsRunnable self.old.system }
+        requires layout { IsLayoutOf self.old.system self.old.layout }
         requires names { AreNamesOf (semantics_of self.old.system) names.now }
         requires steady { IsSteady (semantics_of self.old.system) self.old.state }
         ensures system { self.new.system ≡ self.old.system }
+        ensures layout { self.new.layout ≡ self.old.layout }
         ensures did { OnOk result (DidOrVoid (semantics_of self.old.system) label.now self.old.state self.new.state (string_bytes text.old) (string_bytes text.new)) }
+        ensures turnstiles { self.new.turnstiles ≡ self.old.turnstiles }
         ensures steady { IsSteady (semantics_of self.old.system) self.new.state }
         ensures cells { cells_in self.new.state ≤ cells_in self.old.state + 128 }
     {
@@ -204,11 +243,14 @@ impl World {
         text: &mut String,
     ) -> Result<(), NoMemory>
         requires runnable { IsRunnable self.old.system }
+        requires layout { IsLayoutOf self.old.system self.old.layout }
         requires names { AreNamesOf (semantics_of self.old.system) names.now }
         requires steady { IsSteady (semantics_of self.old.system) self.old.state }
         requires possible { IsPossible (semantics_of self.old.system) self.old.state label.now }
         ensures system { self.new.system ≡ self.old.system }
+        ensures layout { self.new.layout ≡ self.old.layout }
         ensures did { OnOk result (Did (semantics_of self.old.system) label.now self.old.state self.new.state (string_bytes text.old) (string_bytes text.new)) }
+        ensures turnstiles { self.new.turnstiles ≡ self.old.turnstiles }
         ensures steady { IsSteady (semantics_of self.old.system) self.new.state }
         ensures cells { cells_in self.new.state ≤ cells_in self.old.state + 64 }
     {
@@ -227,17 +269,20 @@ impl World {
         text: &mut String,
     ) -> Result<bool, NoMemory>
         requires runnable { IsRunnable self.old.system }
+        requires layout { IsLayoutOf self.old.system self.old.layout }
         requires names { AreNamesOf (semantics_of self.old.system) names.now }
         requires steady { IsSteady (semantics_of self.old.system) self.old.state }
         ensures system { self.new.system ≡ self.old.system }
+        ensures layout { self.new.layout ≡ self.old.layout }
         ensures tried { IfOk result (λ done. Tried (semantics_of self.old.system) label.now self.old.state self.new.state (string_bytes text.old) done (string_bytes text.new)) }
+        ensures turnstiles { self.new.turnstiles ≡ self.old.turnstiles }
         ensures steady { IsSteady (semantics_of self.old.system) self.new.state }
         ensures cells { cells_in self.new.state ≤ cells_in self.old.state + 64 }
     {
         match step(alloc, &self.system, &mut self.state, label) {
             Ok(sends) => {
                 write_label(text, names, label)?;
-                write_sends(alloc, text, &self.system, names, sends.as_slice())?;
+                write_sends(text, self, names, sends.as_slice())?;
                 Ok(true)
             }
             Err(StepFault::NotEnabled) => Ok(false),
@@ -245,23 +290,40 @@ impl World {
         }
     }
 
-    /// What a process does after a reading: its first enabled action, or an idle turn.
-    fn next(&self, alloc: Global, process: u32) -> Label
+    /// What a process does after a reading: its next enabled action, or an idle turn.
+    fn next(&mut self, alloc: Global, process: u32) -> Result<Label, NoMemory>
+        requires runnable { IsRunnable self.old.system }
+        requires steady { IsSteady (semantics_of self.old.system) self.old.state }
+        requires cursors { AreCursorsOf (semantics_of self.old.system) self.old.turnstiles }
+        requires there { process < length self.old.system.processes }
+        ensures system { self.new.system ≡ self.old.system }
+        ensures layout { self.new.layout ≡ self.old.layout }
+        ensures state { self.new.state ≡ self.old.state }
+        ensures next { IfOk result (λ l. IsNextOf self.old.system (semantics_of self.old.system) self.old.state process self.old.turnstiles self.new.turnstiles l) }
+    {
+        let enabled = self.enabled_actions(alloc, process)?;
+        match pick(&mut self.turnstiles, process, enabled.as_slice()) {
+            Some(action) => Ok(Label::Act {
+                process,
+                action,
+                choices: List::new(alloc),
+            }),
+            None => Ok(Label::Idle { process }),
+        }
+    }
+
+    /// Of each action of a process, whether it is enabled.
+    fn enabled_actions(&self, alloc: Global, process: u32) -> Result<List<bool>, NoMemory>
         requires runnable { IsRunnable self.now.system }
         requires steady { IsSteady (semantics_of self.now.system) self.now.state }
         requires there { process < length self.now.system.processes }
-        ensures { IsNextOf self.now.system (semantics_of self.now.system) self.now.state process result }
+        ensures { IfOk result (λ xs. IfSome (action_count self.now.system process) (λ actions. AreEnabled (semantics_of self.now.system) self.now.state process actions xs)) }
     {
+        let mut told = List::new(alloc);
         for action in 0..self.action_count(process) {
-            if enabled(&self.system, &self.state, process, action) {
-                return Label::Act {
-                    process,
-                    action,
-                    choices: List::new(alloc),
-                };
-            }
+            told.push(enabled(&self.system, &self.state, process, action))?;
         }
-        Label::Idle { process }
+        Ok(told)
     }
 
     /// How many actions a process has.

@@ -21,7 +21,7 @@ use Rattle.tap_types.specs.TruthRanges.{TestsAreTruths}
 use Rattle.tap_base.specs.Roots.{Rooted, amount, given_root, leaf, roots, rooted, tested_by}
 use Rattle.tap_base.specs.Truths.{IsOfTruths, IsTest, IsTruth, StandsOnTruths}
 use Rattle.tap_types.proofs.whole.Roots.{roots_binary, roots_cell, roots_element, roots_input, roots_neg, roots_not, roots_number, roots_part}
-use Rattle.tap_types.proofs.whole.ExprInduction.{of_expr}
+use Rattle.tap_base.proofs.ExprInduction.{of_expr}
 use Rattle.tap_base.proofs.ListFacts.{each_split}
 
 -- ---- operands

@@ -2,7 +2,7 @@
 use Rattle.std.specs.Prelude.{◌≡◌, ℕ, ⊤, List, [], ◌∷◌, IfSome, Option, Some}
 use Rattle.tap_base.specs.declared.ast.Ast.{Ast}
 use Rattle.tap_base.specs.declared.system.System.{System}
-use Rattle.tap_front.specs.Accepting.{Accepted, IsReadAs}
+use Rattle.tap_front.specs.Accepting.{IsReadAs}
 use Rattle.tap_front.specs.Lines.{refused_line}
 use Rattle.tap_front.specs.declared.offence.Offence.{Offence}
 use Rattle.tapc_core.specs.Reading.{LeavesText}
@@ -11,12 +11,12 @@ use Rattle.tapc_core.specs.declared.status.Status.TheVariants.{Done, Refused, Re
 
 -- ---- what a text has, where it is told
 
--- it is accepted
-pub record HasSystem (told : Option (List ℕ)) : Type 0 where
+-- it is taken as a system, in the way that a command asks for
+pub record HasSystem (Takes : List ℕ → System → Type 0) (told : Option (List ℕ)) : Type 0 where
   pub text : List ℕ
   pub text_is : told ≡ Some text
   pub system : System
-  pub accepted : Accepted text system
+  pub taken : Takes text system
 
 -- it is read as a tree
 pub record HasTree (told : Option (List ℕ)) : Type 0 where

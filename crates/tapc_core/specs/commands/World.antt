@@ -8,7 +8,7 @@ use Rattle.abstract_run.specs.declared.label.Event.{Event}
 use Rattle.run_text.specs.OneTrace.{IsTraceOf}
 use Rattle.run_text.specs.ScheduleText.{BeginsSchedule, GoesOnAfter, SpellsSchedule}
 use Rattle.run_text.specs.TraceText.{names_in}
-use Rattle.tap_front.specs.Offences.{Offends}
+use Rattle.tap_front.specs.Runs.{CanRun, OffendsRun}
 use Rattle.tap_settings.specs.GivenInputs.{inputs_given}
 use Rattle.tap_settings.specs.Lines.{refused_setting_line}
 use Rattle.tap_base.specs.ListWords.{first}
@@ -68,7 +68,7 @@ pub record IsMisset (task : Task) (bytes : List ℕ) : Type 0 where
 
 abbrev pub OfWorld : Task → Status → List ℕ → Type 0
 OfWorld task Done bytes = IsTrace task bytes
-OfWorld task Refused bytes = IsRefusal Offends task.text bytes ⊎ IsMisset task bytes
+OfWorld task Refused bytes = IsRefusal OffendsRun task.text bytes ⊎ IsMisset task bytes
 OfWorld task BadSchedule bytes = IsBadTrace task bytes
 OfWorld task ReadFault bytes = bytes ≡ read_fault_line
 OfWorld task NoMemory bytes = IsUnfinished task bytes
@@ -93,10 +93,10 @@ IsPlayed WriteFault = ⊤
 IsPlayed NoMemory = ⊤
 IsPlayed _ = ⊥
 
--- Told files: the text is accepted as a system, the settings give it inputs, and the schedule is of this kind for it and
+-- Told files: the text can be run as a system, the settings give it inputs, and the schedule is of this kind for it and
 -- some events.
 pub record HasSchedule (Kind : List (List ℕ) → List ℕ → List Event → Type 0) (task : Task) : Type 0 where
-  pub text : HasSystem task.text
+  pub text : HasSystem CanRun task.text
   pub inputs : Inputs
   pub given : inputs_given text.system task.settings ≡ Some inputs
   pub schedule : List ℕ
@@ -104,21 +104,21 @@ pub record HasSchedule (Kind : List (List ℕ) → List ℕ → List Event → T
   pub events : List Event
   pub kind : Kind (names_in (semantics_of text.system)) schedule events
 
--- A told text is accepted as a system, and the settings have an offence for it.
+-- A told text can be run as a system, and the settings have an offence for it.
 pub record HasMisset (task : Task) : Type 0 where
-  pub text : HasSystem task.text
+  pub text : HasSystem CanRun task.text
   pub refusal : SettingRefusal
   pub is : first (settings_offences text.system task.settings) ≡ Some refusal
 
 pub data WorldIsSure (task : Task) : Status → Type 0 where
   plays : HasSchedule SpellsSchedule task → WorldIsSure task Done
   stops : HasSchedule GoesOnAfter task → WorldIsSure task BadSchedule
-  refuses : HasOffence Offends task.text → WorldIsSure task Refused
+  refuses : HasOffence OffendsRun task.text → WorldIsSure task Refused
   missets : HasMisset task → WorldIsSure task Refused
 
 -- ---- the command
 
--- the schedule is read once the text is accepted, and the settings give inputs
+-- the schedule is read once the text can be run, and the settings give inputs
 abbrev pub reads_both : List ℕ → List ℕ → Status → List (List ℕ)
 reads_both system schedule Done = system ∷ schedule ∷ []
 reads_both system schedule BadSchedule = system ∷ schedule ∷ []

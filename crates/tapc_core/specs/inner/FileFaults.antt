@@ -2,7 +2,7 @@
 use Rattle.std.specs.Prelude.{ℕ, ◌≡◌, ◌≤◌, ⊤, List, Option, Result, Ok, Err}
 use Rattle.tap_front.specs.Lines.{refused_line}
 use Rattle.tapc_core.specs.Lines.{no_memory_line, read_fault_line}
-use Rattle.tapc_core.specs.Outside.{Rose}
+use Rattle.link_trait.specs.Outside.{Rose}
 use Rattle.tapc_core.specs.inner.Closing.{Closes, ClosesOr}
 use Rattle.tapc_core.specs.declared.status.Status.{Status}
 use Rattle.tapc_core.specs.declared.status.Status.TheVariants as status

@@ -11,7 +11,7 @@ use Rattle.abstract_run.specs.declared.state.State.{State}
 use Rattle.run_text.specs.ScheduleText.{AreListed, BeginsBadly, events_text, most_events}
 use Rattle.run_text.specs.Sized.{IsSized}
 use Rattle.run_text.specs.TraceText.{lines_text, names_in, run_lines}
-use Rattle.tapc_core.specs.Outside.{Rose}
+use Rattle.link_trait.specs.Outside.{Rose}
 use Rattle.tapc_core.specs.Run.{FileGives, IsRunFrom, Task}
 use Rattle.tapc_core.specs.declared.lines.Stop.{Stop}
 use Rattle.tapc_core.specs.declared.lines.Stop.TheVariants as stop

@@ -2,7 +2,7 @@
 use Rattle.std.specs.Prelude.{◌≡◌, ℕ, ◌≤◌, ⊤, Result, Ok, Err}
 use Rattle.tap_settings.specs.declared.refusals.SettingsFault.{SettingsFault}
 use Rattle.tap_settings.specs.declared.refusals.SettingsFault.TheVariants as settings
-use Rattle.tapc_core.specs.Outside.{Rose}
+use Rattle.link_trait.specs.Outside.{Rose}
 use Rattle.tapc_core.specs.declared.files.FileFault.TheVariants as file
 use Rattle.tapc_core.specs.declared.start.StartFault.{StartFault}
 use Rattle.tapc_core.specs.declared.start.StartFault.TheVariants.{File, Misset}

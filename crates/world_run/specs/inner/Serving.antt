@@ -1,5 +1,5 @@
 -- How a world serves an event, label by label.
-use Rattle.std.specs.Prelude.{◌≡◌, ℕ, ◌<◌, ◌^◌, Bool, true, false, List, [], ◌∷◌, ◌++◌, length, map, slice_get, IfSome, Option, Some, None}
+use Rattle.std.specs.Prelude.{◌≡◌, ℕ, ◌<◌, ◌^◌, Bool, true, false, List, [], ◌∷◌, ◌++◌, length, map, slice_get, slice_set, IfSome, Option, Some, None}
 use Rattle.std.specs.Option.{option_map}
 use Rattle.tap_base.specs.declared.system.System.{System}
 use Rattle.tap_base.specs.Option.{each}
@@ -12,6 +12,9 @@ use Rattle.abstract_run.specs.Step.{step}
 use Rattle.abstract_run.specs.declared.label.Label.{Label}
 use Rattle.abstract_run.specs.declared.label.Label.TheVariants as label
 use Rattle.abstract_run.specs.declared.state.State.{State}
+use Rattle.guard_scheduler.specs.Cursor.{Cursor}
+use Rattle.guard_scheduler.specs.Turnstile.{Picks}
+use Rattle.exact_choice.specs.Choice.{ChoosesAct}
 use Rattle.run_text.specs.TraceText.{Datagram, datagram, lines_text, names_in, sent_line}
 use Rattle.world_run.specs.Served.{WroteLines}
 
@@ -40,14 +43,23 @@ Tried semantics l old new before false after = (step semantics old l ≡ None) �
 abbrev pub DidOrVoid : Semantics → Label → State → State → List ℕ → List ℕ → Type 0
 DidOrVoid semantics l old new before after = Did semantics (or_void semantics old l) old new before after
 
--- The label is the first enabled action of a process, or an idle turn where none of so many is enabled.
-pub data IsNext (semantics : Semantics) (s : State) (p actions : ℕ) : Label → Type 0 where
-  act : {a : ℕ} → a < 2 ^ 32 → is_enabled semantics s p a ≡ true → IsFirst semantics s p a → IsNext semantics s p actions (label.Act p a [])
-  idle : IsFirst semantics s p actions → IsNext semantics s p actions (label.Idle p)
+-- The label is the next enabled action of a process by its cursor, or an idle turn where none of so many is enabled.
+pub data IsNext (semantics : Semantics) (s : State) (p actions : ℕ) (old new : List Cursor) : Label → Type 0 where
+  act : {a : ℕ} → a < 2 ^ 32 → ChoosesAct semantics s p a old new → IsNext semantics s p actions old new (label.Act p a [])
+  idle : IsFirst semantics s p actions → new ≡ old → IsNext semantics s p actions old new (label.Idle p)
 
 -- how many actions a process has
 abbrev pub action_count : System → ℕ → Option ℕ
 action_count system p = option_map (λ process. length process.actions) (slice_get system.processes p)
 
-abbrev pub IsNextOf : System → Semantics → State → ℕ → Label → Type 0
-IsNextOf system semantics s p l = IfSome (action_count system p) (λ actions. IsNext semantics s p actions l)
+abbrev pub IsNextOf : System → Semantics → State → ℕ → List Cursor → List Cursor → Label → Type 0
+IsNextOf system semantics s p old new l = IfSome (action_count system p) (λ actions. IsNext semantics s p actions old new l)
+
+-- Of each of so many actions of a process, whether it is enabled.
+pub record AreEnabled (semantics : Semantics) (s : State) (p actions : ℕ) (enabled : List Bool) : Type 0 where
+  pub counted : length enabled ≡ actions
+  pub told : (a : ℕ) → a < actions → slice_get enabled a ≡ Some (is_enabled semantics s p a)
+
+-- The cursor of a process, where there is one, picks from the list; the others stay.
+abbrev pub PicksAt : List Cursor → ℕ → List Bool → Option ℕ → List Cursor → Type 0
+PicksAt old p enabled picked new = (from : Cursor) → slice_get old p ≡ Some from → (to : Cursor) × Picks from enabled picked to × (new ≡ slice_set old p to)

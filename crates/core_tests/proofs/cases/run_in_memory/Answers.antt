@@ -2,7 +2,7 @@ use Rattle.std.proofs.Common.{Some, subst}
 use Rattle.core_tests.proofs.InMemory.{took}
 use Rattle.core_tests.proofs.cases.run_in_memory.Goals as goal
 use Rattle.tapc_core.specs.Command.{AreFound}
-use Rattle.tapc_core.specs.Entries.{contents_of}
+use Rattle.link_trait.specs.Entries.{contents_of}
 use Rattle.tapc_core.specs.Words.{command_of, world}
 use Rattle.tapc_core.specs.commands.All.{command_for}
 use Rattle.tapc_core.specs.declared.status.Status.TheVariants.{Done}

@@ -1,5 +1,5 @@
-use Rattle.tap_front.proofs.Runs.{accepted_runs}
+use Rattle.run_tests.proofs.LaidOut.{has_layout}
 use Rattle.run_tests.proofs.texts.system_of.Goals as goal
 
-pub returns-clause-runnable : goal.returns-clause-runnable
-returns-clause-runnable c = accepted_runs _ c.in-Ok.system c.in-Ok.ensures.reads
+pub returns-clause-wire : goal.returns-clause-wire
+returns-clause-wire c = has_layout _ _ c.into_system.result c.into_system.ensures.system c.in-Ok.ensures.reads

@@ -1,7 +1,7 @@
 use Rattle.std.proofs.Common.{◌≡◌, ◌++◌, ℕ, List, Option, Result, Ok, Err, ap, ◌∙◌, sym, append_assoc}
 use Rattle.std.specs.Result.{IsErr}
 use Rattle.std.specs.Io.KnownBytes.{Appends}
-use Rattle.tapc_core.specs.Outside.{PutAppends}
+use Rattle.link_trait.specs.Outside.{PutAppends}
 use Rattle.tapc_core.proofs.Steps.{appends_more}
 use Rattle.tapc_core.proofs.closing.put_both.Goals as goal
 

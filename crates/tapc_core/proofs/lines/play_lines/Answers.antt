@@ -5,14 +5,18 @@ use Rattle.tap_base.specs.declared.system.System.{System}
 use Rattle.abstract_run.specs.Semantics.{messages_of, process_semantics, semantics_of}
 use Rattle.abstract_run.specs.declared.label.Event.{Event}
 use Rattle.abstract_run.specs.declared.state.State.{State}
+use Rattle.guard_scheduler.specs.Cursor.{Cursor}
+use Rattle.exact_choice.specs.Choice.{AreCursorsOf}
+use Rattle.exact_choice.proofs.Cursors.{cursors_opened}
 use Rattle.run_text.specs.Names.{AreNames}
 use Rattle.run_text.specs.ScheduleText.{IsFirstLine, IsListed, SpellsEvent, most_events}
 use Rattle.run_text.specs.TraceText.{names_in}
 use Rattle.tapc_core.specs.declared.lines.Stop.TheVariants as stop
-use Rattle.tapc_core.specs.inner.Playing.{Broken, Plays, Progress}
-use Rattle.tapc_core.proofs.Steps.{first_line_taken, progress_more, progress_moved, progress_start}
+use Rattle.tapc_core.specs.inner.Playing.{Broken, Plays}
+use Rattle.tapc_core.proofs.Steps.{Goes, first_line_taken, goes_more, goes_moved, goes_start}
 use Rattle.tapc_core.proofs.lines.play_lines.Goals as goal
 use Rattle.abstract_run.specs.Runnable.{IsRunnable}
+use Rattle.world_run.specs.Layouts.{IsLayoutOf}
 use Rattle.world_run.specs.Names.{AreNamesOf}
 use Rattle.world_run.specs.Served.{IsSteady, Served}
 
@@ -27,20 +31,22 @@ listed_here : (system : System) (names : List (List ℕ)) (line : List ℕ) (e :
 listed_here system names line e same h = subst (λ n. IsListed n e) (ap length same ∙ names_counted system) h.0
 
 -- a line was served by the system of the run
-served_line : {system own : System} {start : State} {schedule rest line tail : List ℕ} {number : ℕ} {s t : State} {before now : Option (List ℕ)} {page after : List ℕ} {e : Event} {names : List (List ℕ)}
-    → own ≡ system → names ≡ names_in (semantics_of system) → number ≤ most_events → Progress (semantics_of system) start schedule rest number s before now page → (rest ≡ [] → ⊥) → IsFirstLine rest line tail
-    → SpellsEvent names line e → Served (semantics_of own) e s t page after → Progress (semantics_of system) start schedule tail (number + 1) t before now after
-served_line {line = line} {s = s} {t = t} {page = page} {after = after} {e = e} same is few p some first spells served =
-    progress_more few p some first (subst (λ n. SpellsEvent n line e) is spells) (subst (λ x. Served (semantics_of x) e s t page after) same served)
+served_line : {system own : System} {start : State} {schedule rest line tail : List ℕ} {number : ℕ} {s t : State} {cursors later : List Cursor} {before now : Option (List ℕ)} {page after : List ℕ} {e : Event}
+    {names : List (List ℕ)} → own ≡ system → names ≡ names_in (semantics_of system) → number ≤ most_events → Goes (semantics_of system) start schedule rest number s cursors before now page → (rest ≡ [] → ⊥)
+    → IsFirstLine rest line tail → SpellsEvent names line e → Served (semantics_of own) e s t cursors later page after → Goes (semantics_of system) start schedule tail (number + 1) t later before now after
+served_line {line = line} {s = s} {t = t} {cursors = cursors} {later = later} {page = page} {after = after} {e = e} same is few g some first spells served =
+    goes_more few g some first (subst (λ n. SpellsEvent n line e) is spells) (subst (λ x. Served (semantics_of x) e s t cursors later page after) same served)
 
 pub loop-rest-smaller : goal.loop-rest-smaller
 loop-rest-smaller g c = first_line_taken c.loop-rest.rest.now _ c.first_line.result.1.now (search rules) c.first_line.ensures.first
 
 pub loop-rest-init : goal.loop-rest-init
 loop-rest-init g c = record {
-  progress = rw c.requires.empty (progress_start _ _ _ _);
+  going = rw (c.requires.empty, c.requires.opened) (goes_start _ _ _ _);
   same = refl;
+  layout = refl;
   steady = c.requires.steady;
+  cursors = rw c.requires.opened (cursors_opened (semantics_of c.args.world.now.system));
   kept = refl;
   cells = omega (arith, c.requires.no_cells);
   counted = omega arith;
@@ -56,11 +62,17 @@ numbered_event-requires-clause-few g c = few_names c.args.world.now.system c.arg
 pub serve-requires-clause-runnable : goal.serve-requires-clause-runnable
 serve-requires-clause-runnable g c = subst IsRunnable (sym c.loop-rest.invariant.same) c.requires.runnable
 
+pub serve-requires-clause-layout : goal.serve-requires-clause-layout
+serve-requires-clause-layout g c = subst (λ x. IsLayoutOf c.loop-rest.world.system x) (sym c.loop-rest.invariant.layout) (subst (λ x. IsLayoutOf x c.args.world.now.layout) (sym c.loop-rest.invariant.same) c.requires.layout)
+
 pub serve-requires-clause-names : goal.serve-requires-clause-names
 serve-requires-clause-names g c = subst (λ x. AreNamesOf (semantics_of x) c.args.names.now) (sym c.loop-rest.invariant.same) c.requires.names
 
 pub serve-requires-clause-steady : goal.serve-requires-clause-steady
 serve-requires-clause-steady g c = subst (λ x. IsSteady (semantics_of x) c.loop-rest.world.state) (sym c.loop-rest.invariant.same) c.loop-rest.invariant.steady
+
+pub serve-requires-clause-cursors : goal.serve-requires-clause-cursors
+serve-requires-clause-cursors g c = subst (λ x. AreCursorsOf (semantics_of x) c.loop-rest.world.turnstiles) (sym c.loop-rest.invariant.same) c.loop-rest.invariant.cursors
 
 pub serve-requires-clause-listed : goal.serve-requires-clause-listed
 serve-requires-clause-listed g c =
@@ -74,9 +86,11 @@ loop-rest-preserved g c =
     let moves = c.in_ok-put_full_page.ensures.moves in
     let inv = c.loop-rest.invariant in
     record {
-      progress = progress_moved (served_line inv.same c.requires.names.processes c.in-Some.ensures.within inv.progress some c.first_line.ensures.first c.in-Some.ensures.event c.in_ok-serve.ensures.served) moves.0 moves.1 moves.2;
+      going = goes_moved (served_line inv.same c.requires.names.processes c.in-Some.ensures.within inv.going some c.first_line.ensures.first c.in-Some.ensures.event c.in_ok-serve.ensures.served) moves.0 moves.1 moves.2;
       same = c.in_ok-serve.ensures.system ∙ inv.same;
+      layout = c.in_ok-serve.ensures.layout ∙ inv.layout;
       steady = subst (λ x. IsSteady (semantics_of x) c.serve.new.self.state) inv.same c.in_ok-serve.ensures.steady;
+      cursors = subst (λ x. AreCursorsOf (semantics_of x) c.serve.new.self.turnstiles) inv.same c.in_ok-serve.ensures.cursors;
       kept = c.in_ok-put_full_page.ensures.cause.kept ∙ inv.kept;
       cells = omega (arith, inv.cells, c.in_ok-serve.ensures.cells);
       counted = omega (arith, c.in-Some.ensures.within);
@@ -94,7 +108,7 @@ returns-in_err-put_full_page-clause-plays g c =
     let moves = c.in_err-put_full_page.ensures.moves in
     let inv = c.loop-rest.invariant in
     let m = semantics_of c.args.world.now.system in
-    let progress = served_line inv.same c.requires.names.processes c.in-Some.ensures.within inv.progress some c.first_line.ensures.first c.in-Some.ensures.event c.in_ok-serve.ensures.served in
+    let progress = (served_line inv.same c.requires.names.processes c.in-Some.ensures.within inv.going some c.first_line.ensures.first c.in-Some.ensures.event c.in_ok-serve.ensures.served).progress in
     let broken : Broken m c.args.world.now.state c.args.schedule.now (g.O.Sink.written c.args.out.now) (g.O.Sink.written c.put_full_page.new.out) =
     record {
       rest = _;

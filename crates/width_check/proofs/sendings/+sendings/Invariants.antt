@@ -1,5 +1,5 @@
 use Rattle.std.proofs.Common.{◌≡◌, ◌+◌, ◌≤◌, drop, map, sum}
-use Rattle.width_check.specs.Cost as spec
+use Rattle.tap_base.specs.Sends as spec
 use Rattle.width_check.specs.inner.Capped.{capped}
 use Rattle.width_check.proofs.sendings.+sendings.Given as goal
 

@@ -5,4 +5,4 @@ use Rattle.world_run.proofs.sends.write_sends.Given as goal
 
 -- the lines of the datagrams so far were written
 abbrev pub invariant-loop-send : goal.invariant-loop-send
-invariant-loop-send l = Wrote (sends_text (semantics_of l.system) (take l.send-index l.sends)) (string_bytes l.fn.text) (string_bytes l.text)
+invariant-loop-send l = Wrote (sends_text (semantics_of l.world.system) (take l.send-index l.sends)) (string_bytes l.fn.text) (string_bytes l.text)

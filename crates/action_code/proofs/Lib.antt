@@ -1,0 +1,4 @@
+pub mod Firsts
+pub mod Naming
+pub mod Spending
+pub mod Weights

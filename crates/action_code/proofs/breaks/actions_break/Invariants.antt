@@ -1,0 +1,7 @@
+use Rattle.std.proofs.Common.{◌≡◌}
+use Rattle.register_code.specs.Verified.{action_breaks}
+use Rattle.action_code.proofs.Firsts.{left}
+use Rattle.action_code.proofs.breaks.actions_break.Given as goal
+
+abbrev pub invariant-loop-at : goal.invariant-loop-at
+invariant-loop-at l = left (action_breaks l.code l.number l.process) l.process.actions l.at ≡ left (action_breaks l.code l.number l.process) l.process.actions 0

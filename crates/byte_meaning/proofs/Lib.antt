@@ -1,0 +1,11 @@
+pub mod Apart
+pub mod Digits
+pub mod Elements
+pub mod Heard
+pub mod Held
+pub mod InSystem
+pub mod Meant
+pub mod Patterns
+pub mod Read
+pub mod Receivers
+pub mod Spelled

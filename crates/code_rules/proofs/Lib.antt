@@ -1,0 +1,5 @@
+pub mod Fields
+pub mod JumpFacts
+pub mod NestFacts
+pub mod OthersCounted
+pub mod SameRules

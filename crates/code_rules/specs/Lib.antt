@@ -1,0 +1,4 @@
+pub mod Nests
+pub mod Others
+pub mod Places
+pub mod inner

@@ -1,0 +1,4 @@
+pub mod Chosen
+pub mod Cursors
+pub mod Joined
+mod Rounds

@@ -1,0 +1,2 @@
+pub mod EntriesHeld
+pub mod FrontGiven

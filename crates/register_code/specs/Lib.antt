@@ -1,0 +1,16 @@
+pub mod CodeSemantics
+pub mod Declarations
+pub mod Fields
+pub mod Instructions
+pub mod Jumping
+pub mod Loops
+pub mod Naming
+pub mod Registers
+pub mod Results
+pub mod Rules
+pub mod Running
+pub mod Sending
+pub mod Sites
+pub mod Sums
+pub mod Verified
+pub mod Wires

@@ -1,0 +1,26 @@
+use Rattle.std.proofs.Common.{◌≡◌, subst, sym}
+use Rattle.tap_base.specs.declared.refusal.RefusalCode.TheVariants as code
+use Rattle.tap_base.specs.Wires.{wire_of}
+use Rattle.tap_lexer.specs.Bytes.{start}
+use Rattle.tap_expr.specs.ExprText.{refusal}
+use Rattle.tap_front.specs.Accepting.{TellsApart}
+use Rattle.tap_front.specs.Offences.{misspelled, too_long}
+use Rattle.tap_front.specs.Runs.{OffendsRun, unaccepted}
+use Rattle.tap_front.specs.declared.offence.Offence.TheVariants.{Coded}
+use Rattle.world_run.specs.Layouts.{HasLayout}
+use Rattle.tapc_core.proofs.Fronts.{apart_names, has_layout}
+use Rattle.tapc_core.proofs.TreesRead.{read_long}
+use Rattle.tapc_core.proofs.files.read_to_run.Goals as goal
+
+pub returns-in-TooLong-clause-refused : goal.returns-in-TooLong-clause-refused
+returns-in-TooLong-clause-refused g c = λ o e.
+    let same : Coded (refusal code.L0 start) ≡ o = cc in
+    read_long OffendsRun (λ text h. unaccepted (misspelled (too_long h))) _ _ c.in_ok-text.field-0 o c.in-TooLong.is same c.in_ok-text.ensures.text
+
+pub returns-in_ok-accept_to_run-in-Whole-clause-apart : goal.returns-in_ok-accept_to_run-in-Whole-clause-apart
+returns-in_ok-accept_to_run-in-Whole-clause-apart g c =
+    apart_names c.into_system.result (subst TellsApart (sym c.into_system.ensures.system) c.in_ok-accept_to_run-in-Whole.ensures.named)
+
+pub returns-in_ok-accept_to_run-in-Whole-clause-wire : goal.returns-in_ok-accept_to_run-in-Whole-clause-wire
+returns-in_ok-accept_to_run-in-Whole-clause-wire g c =
+    subst (λ s. HasLayout (wire_of s)) (sym c.into_system.ensures.system) (has_layout _ _ c.in_ok-accept_to_run-in-Whole.ensures.reads)

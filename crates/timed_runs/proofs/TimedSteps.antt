@@ -1,0 +1,171 @@
+-- What a step does to the timers and the time of a process.
+use Rattle.std.proofs.Common.{◌≡◌, ◌≢◌, ℕ, zero, suc, ℤ, Bool, true, false, List, [], ◌∷◌, map, refl, ap, subst, ◌∙◌, slice_get, slice_set, Option, Some, None, if◌then◌else◌, is_none}
+use Rattle.std.specs.Option.{option_map}
+use Rattle.std.proofs.lemmas.Option.{option_and_then_some, cond_some}
+use Rattle.abstract_run.specs.declared.label.Label.{Label}
+use Rattle.abstract_run.specs.declared.label.Label.TheVariants as label
+use Rattle.tap_exec.specs.declared.running.Running.{Running}
+use Rattle.tap_exec.specs.declared.running.Outgoing.{Outgoing}
+use Rattle.abstract_run.specs.declared.state.State.{State}
+use Rattle.tap_exec.specs.declared.running.TimerState.{TimerState}
+use Rattle.tap_base.specs.Faults.{lost_at}
+use Rattle.abstract_run.specs.Channels.{on_channel}
+use Rattle.abstract_run.specs.Enabled.{is_ready}
+use Rattle.abstract_run.specs.Semantics.{Semantics, ActionSemantics, action_at}
+use Rattle.tap_base.specs.Option.{provided}
+use Rattle.abstract_run.specs.Step.{After, acted, flight_changed, is_empty, is_idle, mark_raised, received, settled_step, silent, step, ticked, time_after, timer_after, timers_at, with_channels}
+use Rattle.abstract_run.proofs.Acted.{acted_by}
+use Rattle.abstract_run.proofs.Begins.{start}
+use Rattle.abstract_run.proofs.Ticked.{read_by}
+
+-- ---- one place of a list
+
+pub set_here : {A : Type 0} (xs : List A) (k : ℕ) (x y : A) → slice_get xs k ≡ Some x → slice_get (slice_set xs k y) k ≡ Some y
+set_here [] k x y h = cc
+set_here (z ∷ zs) zero x y h = refl
+set_here (z ∷ zs) (suc k) x y h = set_here zs k x y h
+
+pub set_there : {A : Type 0} (xs : List A) (k j : ℕ) (y : A) → k ≢ j → slice_get (slice_set xs k y) j ≡ slice_get xs j
+set_there [] k j y h = refl
+set_there (z ∷ zs) zero zero y h = absurd (h refl)
+set_there (z ∷ zs) zero (suc j) y h = refl
+set_there (z ∷ zs) (suc k) zero y h = refl
+set_there (z ∷ zs) (suc k) (suc j) y h = set_there zs k j y (λ e. h (ap suc e))
+
+-- ---- readings and actions
+
+-- what a reading of p leaves for p
+pub record TickLeaves (u : State) (p c : ℕ) (v : State) : Type 0 where
+  pub time : ℕ
+  pub timers : List TimerState
+  pub timed : slice_get u.times p ≡ Some time
+  pub armed : slice_get u.timers p ≡ Some timers
+  pub later : slice_get v.times p ≡ Some (time_after time c)
+  pub dated : slice_get v.timers p ≡ Some (map (timer_after (time_after time c)) timers)
+
+tick_leaves : (u v : State) (p c : ℕ) → ticked u p c ≡ Some v → TickLeaves u p c v
+tick_leaves u v p c e =
+    let h = read_by u v p c e in
+    let later = time_after h.time c in
+    let dated = map (timer_after later) h.timers in
+    record {
+      time = h.time;
+      timers = h.timers;
+      timed = h.timed;
+      armed = h.armed;
+      later = subst (λ (w : State). slice_get w.times p ≡ Some later) h.next (set_here u.times p h.time later h.timed);
+      dated = subst (λ (w : State). slice_get w.timers p ≡ Some dated) h.next (set_here u.timers p h.timers dated h.armed);
+    }
+
+-- what an action of p leaves: its body began with the timers at hand, but for that of a timeout
+pub record ActLeaves (semantics : Semantics) (u : State) (p a : ℕ) (v : State) : Type 0 where
+  pub action : ActionSemantics
+  pub there : action_at semantics p a ≡ Some action
+  pub ready : is_ready u p action ≡ true
+  pub timers : List TimerState
+  pub armed : slice_get u.timers p ≡ Some timers
+  pub inputs : List ℤ
+  pub values : List ℤ
+  pub start : Running
+  pub started : start.timers ≡ timers_at action.guard timers
+  pub r : Running
+  pub ran : action.body inputs values start ≡ Some r
+  pub timers_after : v.timers ≡ slice_set u.timers p r.timers
+  pub times_after : v.times ≡ u.times
+
+act_leaves : (semantics : Semantics) (u v : State) (p a : ℕ) (choices : List ℤ) (sends : List Outgoing) → ◌≡◌ {A = Option After} (acted semantics u p a choices) (Some (v, sends)) → ActLeaves semantics u p a v
+act_leaves semantics u v p a choices sends e =
+    let x = acted_by semantics u v p a choices sends e in
+    option_and_then_some _ (slice_get u.stores p) x.done.r x.done.ran (λ cells stored r1.
+    option_and_then_some _ (slice_get u.inputs.of p) x.done.r r1 (λ inputs given r2.
+    option_and_then_some _ (slice_get u.timers p) x.done.r r2 (λ timers armed r3.
+    option_and_then_some _ (received u p x.action.guard) x.done.r r3 (λ values heard r4.
+    option_and_then_some _ (x.action.body inputs values (start cells (timers_at x.action.guard timers) choices)) x.done.r r4 (λ end did r5.
+    record {
+      action = x.action;
+      there = x.at;
+      ready = x.ready;
+      timers = timers;
+      armed = armed;
+      inputs = inputs;
+      values = values;
+      start = start cells (timers_at x.action.guard timers) choices;
+      started = refl;
+      r = x.done.r;
+      ran = did ∙ ap Some (cond_some (is_empty end.choices) end x.done.r r5).1;
+      timers_after = ap (λ (w : State). w.timers) x.done.next;
+      times_after = ap (λ (w : State). w.times) x.done.next;
+    })))))
+
+-- ---- every other label
+
+-- the timers and the time of p are as before
+pub record Untouched (p : ℕ) (u v : State) : Type 0 where
+  pub timers : slice_get v.timers p ≡ slice_get u.timers p
+  pub times : slice_get v.times p ≡ slice_get u.times p
+
+-- neither a reading nor an action of p
+abbrev pub IsOther : ℕ → Label → Type 0
+IsOther p (label.Tick q c) = q ≢ p
+IsOther p (label.Act q a choices) = q ≢ p
+IsOther p _ = Unit {0}
+
+-- all timers and times are as before
+abbrev pub SameTimes : State → State → Type 0
+SameTimes u v = (v.timers ≡ u.timers) × (v.times ≡ u.times)
+
+same_untouched : (p : ℕ) (u v : State) → SameTimes u v → Untouched p u v
+same_untouched p u v h = record { timers = ap (λ ts. slice_get ts p) h.0; times = ap (λ ts. slice_get ts p) h.1 }
+
+silent_some : (o : Option State) (v : State) (sends : List Outgoing) → ◌≡◌ {A = Option After} (silent o) (Some (v, sends)) → o ≡ Some v
+silent_some None v sends e = cc
+silent_some (Some w) v sends e = let both : ◌≡◌ {A = After} (w, []) (v, sends) = cc in ap (λ (a : After). Some a.0) both
+
+-- a step that changes channels alone
+changed : {A : Type 0} (f : A → State) (u v : State) (o : Option A) → ((x : A) → SameTimes u (f x)) → option_map f o ≡ Some v → SameTimes u v
+changed f u v None h e = cc
+changed f u v (Some x) h e = let same : f x ≡ v = cc in subst (λ w. SameTimes u w) same (h x)
+
+-- A label other than a reading and an action of p leaves the timers and the time of p.
+other_untouched : (semantics : Semantics) (u v : State) (p : ℕ) (l : Label) (sends : List Outgoing) → IsOther p l → ◌≡◌ {A = Option After} (settled_step semantics u l) (Some (v, sends)) → Untouched p u v
+other_untouched semantics u v p (label.Tick q c) sends other e =
+    let h = read_by u v q c (silent_some (ticked u q c) v sends e) in
+    subst (λ w. Untouched p u w) h.next (record {
+      timers = set_there u.timers q p (map (timer_after (time_after h.time c)) h.timers) other;
+      times = set_there u.times q p (time_after h.time c) other;
+    })
+other_untouched semantics u v p (label.Act q a choices) sends other e =
+    let h = act_leaves semantics u v q a choices sends e in
+    record {
+      timers = ap (λ ts. slice_get ts p) h.timers_after ∙ set_there u.timers q p h.r.timers other;
+      times = ap (λ ts. slice_get ts p) h.times_after;
+    }
+other_untouched semantics u v p (label.Idle q) sends other e =
+    let same = (cond_some (is_idle semantics u q) u v (silent_some (provided (is_idle semantics u q) u) v sends e)).1 in
+    same_untouched p u v (subst (λ w. SameTimes u w) same (refl, refl))
+other_untouched semantics u v p (label.Arrive q r) sends other e =
+    same_untouched p u v (changed _ u v _ (λ channels. (refl, refl)) (silent_some (with_channels u (on_channel q r mark_raised u.channels)) v sends e))
+other_untouched semantics u v p (label.Lose q r i) sends other e =
+    same_untouched p u v (changed _ u v _ (λ channels. (refl, refl)) (silent_some (flight_changed (lost_at i) u q r) v sends e))
+other_untouched semantics u v p label.Void sends other e =
+    let same : u ≡ v = let it = silent_some (Some u) v sends e in cc in
+    same_untouched p u v (subst (λ w. SameTimes u w) same (refl, refl))
+other_untouched semantics u v p _ sends other e = cc
+
+-- a step is one while nothing is falling
+settled : (semantics : Semantics) (u v : State) (l : Label) (sends : List Outgoing) → ◌≡◌ {A = Option After} (step semantics u l) (Some (v, sends)) → ◌≡◌ {A = Option After} (settled_step semantics u l) (Some (v, sends))
+settled semantics u v l sends e = by_test (is_none u.falling) e where
+  by_test : (b : Bool) → ◌≡◌ {A = Option After} (if b then settled_step semantics u l else None) (Some (v, sends)) → ◌≡◌ {A = Option After} (settled_step semantics u l) (Some (v, sends))
+  by_test true h = h
+  by_test false h = cc
+
+-- ---- the three kinds of steps
+
+pub tick_step : (semantics : Semantics) (u v : State) (p c : ℕ) (sends : List Outgoing) → ◌≡◌ {A = Option After} (step semantics u (label.Tick p c)) (Some (v, sends)) → TickLeaves u p c v
+tick_step semantics u v p c sends e = tick_leaves u v p c (silent_some (ticked u p c) v sends (settled semantics u v (label.Tick p c) sends e))
+
+pub act_step : (semantics : Semantics) (u v : State) (p a : ℕ) (choices : List ℤ) (sends : List Outgoing) → ◌≡◌ {A = Option After} (step semantics u (label.Act p a choices)) (Some (v, sends)) → ActLeaves semantics u p a v
+act_step semantics u v p a choices sends e = act_leaves semantics u v p a choices sends (settled semantics u v (label.Act p a choices) sends e)
+
+pub other_step : (semantics : Semantics) (u v : State) (p : ℕ) (l : Label) (sends : List Outgoing) → IsOther p l → ◌≡◌ {A = Option After} (step semantics u l) (Some (v, sends)) → Untouched p u v
+other_step semantics u v p l sends other e = other_untouched semantics u v p l sends other (settled semantics u v l sends e)
