@@ -19,6 +19,7 @@ LAST = [
     (3, "world", r"bad line \d+\n"),
     (4, None, r"read fault\n"),
     (7, None, r"no memory\n"),
+    (9, "world", r"full \d+\n"),
 ]
 ALONE = {1, 2, 4}
 

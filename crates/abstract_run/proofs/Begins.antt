@@ -10,16 +10,16 @@ use Rattle.tap_base.proofs.ListFacts.{both_at, each_at, each_set, element_beside
 use Rattle.tap_exec.specs.declared.running.Running.{Running}
 use Rattle.tap_exec.specs.declared.running.TimerState.{TimerState}
 use Rattle.tap_exec.specs.declared.running.TimerState.TheVariants as timer
-use Rattle.abstract_run.specs.declared.state.Cell.{Cell}
-use Rattle.abstract_run.specs.declared.state.Cell.TheVariants as cell
+use Rattle.byte_meaning.specs.declared.cell.Cell.{Cell}
+use Rattle.byte_meaning.specs.declared.cell.Cell.TheVariants as cell
 use Rattle.abstract_run.specs.declared.state.Channel.{Channel}
 use Rattle.abstract_run.specs.declared.state.State.{State}
 use Rattle.abstract_run.specs.Channels.{is_message, waiting}
 use Rattle.abstract_run.specs.Enabled.{guard_holds, is_ready}
 use Rattle.abstract_run.specs.Fits.{Fits, IsFitCell, IsFitTimer}
-use Rattle.abstract_run.specs.Messages.{AreReceived, AreValuesOf}
+use Rattle.byte_meaning.specs.Messages.{AreReceived, AreValuesOf}
 use Rattle.abstract_run.specs.Safe.{IsBeginning, IsFitRunning}
-use Rattle.abstract_run.specs.Semantics.{ActionSemantics, GuardSemantics, InputSemantics, ProcessSemantics, Semantics, input_ranges, local, receive, timeout}
+use Rattle.tap_exec.specs.Semantics.{ActionSemantics, GuardSemantics, InputSemantics, ProcessSemantics, Semantics, input_ranges, local, receive, timeout}
 use Rattle.abstract_run.specs.Step.{body_run, channels_at, is_empty, received, timers_at}
 use Rattle.abstract_run.proofs.Found.{waiting_cell}
 use Rattle.abstract_run.proofs.Taken.{can_take}

@@ -1,28 +1,31 @@
--- Where bodies keep ranges and need no choice, an enabled action has a step, and in a calm state each process has a turn.
-use Rattle.std.proofs.Common.{◌≡◌, ◌+◌, ◌<◌, ◌≤◌, ◌&&◌, ◌||◌, ◌==◌, ℕ, ℤ, zero, suc, Bool, true, false, List, [], ◌∷◌, ◌++◌, length, take, refl, ap, sym, ◌∙◌, slice_get, Option, Some, None, IsSome, arith}
-use Rattle.std.specs.List.{list_any}
+-- Where bodies keep ranges and need no choice, an enabled action has a step. Readings go on, and so does a stop that is due.
+use Rattle.std.proofs.Common.{◌≡◌, ◌+◌, ◌<◌, ◌≤◌, ℕ, ℤ, Bool, true, not, List, [], ◌∷◌, ◌++◌, length, refl, ap, sym, ◌∙◌, slice_get, Option, Some, None, IfSome, IsSome, arith}
 use Rattle.std.specs.Option.{option_map}
+use Rattle.std.proofs.lemmas.Bool.{eq-eqb}
 use Rattle.std.proofs.lemmas.Option.{option_and_then_some, slice_get_within}
+use Rattle.std.proofs.lemmas.Slice.Eq.{bytes_eq-Decides}
 use Rattle.tap_base.specs.Lists.{Each}
 use Rattle.tap_base.specs.Option.{◌>>=◌, is_yes, provided}
-use Rattle.tap_base.proofs.ListFacts.{each_at, each_weaker, none_any, some_any, element_beside}
+use Rattle.tap_base.proofs.ListFacts.{each_weaker, element_beside}
 use Rattle.tap_exec.specs.declared.running.Outgoing.{Outgoing}
 use Rattle.tap_exec.specs.declared.running.Running.{Running}
 use Rattle.tap_exec.specs.declared.running.TimerState.{TimerState}
 use Rattle.abstract_run.specs.declared.label.Label.TheVariants as label
-use Rattle.abstract_run.specs.declared.state.Cell.{Cell}
 use Rattle.abstract_run.specs.declared.state.Channel.{Channel}
+use Rattle.abstract_run.specs.declared.state.Falling.{Falling}
 use Rattle.abstract_run.specs.declared.state.State.{State}
-use Rattle.abstract_run.specs.Channels.{all_sent, error_waits, is_error, most_cells}
-use Rattle.abstract_run.specs.Enabled.{any_enabled, is_enabled, is_ready}
-use Rattle.abstract_run.specs.Fits.{Fits}
-use Rattle.abstract_run.specs.Messages.{IsFitSend, most_sends}
-use Rattle.abstract_run.specs.Progress.{ActionsGoOn, HasRoom, IsPossible, NeedsNoChoice, TurnsGoOn}
+use Rattle.abstract_run.specs.Channels.{all_sent, most_cells, taken_back}
+use Rattle.abstract_run.specs.Enabled.{is_ready, is_enabled}
+use Rattle.abstract_run.specs.Fits.{FallingFits, Fits}
+use Rattle.byte_meaning.specs.Messages.{IsFitSend, most_sends}
+use Rattle.abstract_run.specs.Progress.{ActionsGoOn, FallsGoOn, HasRoom, IsPossible, NeedsNoChoice, TicksGoOn}
 use Rattle.abstract_run.specs.Safe.{BodiesKeepRanges}
-use Rattle.abstract_run.specs.Semantics.{ActionSemantics, ProcessSemantics, Semantics, action_at}
-use Rattle.abstract_run.specs.Step.{After, body_run, is_empty, is_live, performed, step, time_after, timers_at}
+use Rattle.tap_exec.specs.Semantics.{ActionSemantics, ProcessSemantics, Semantics, action_at}
+use Rattle.abstract_run.specs.Step.{After, body_run, is_empty, is_live, performed, put_down, step, time_after, timers_at}
 use Rattle.abstract_run.proofs.Acted.{acted_is, left_by, left_fits}
 use Rattle.abstract_run.proofs.Begins.{begins, body_run_is, here, start}
+use Rattle.abstract_run.proofs.Fallen.{can_take_back}
+use Rattle.abstract_run.proofs.Kept.{flies_from, some_fits}
 use Rattle.abstract_run.proofs.OnChannel.{Ends, count, count_next}
 use Rattle.abstract_run.proofs.Roomy.{Joined, Roomy, can_send, joined_among, joined_same}
 use Rattle.abstract_run.proofs.Taken.{taken_each, taken_ends, taken_shorter}
@@ -103,65 +106,54 @@ actions_go_on semantics s p a keep free fits settled up room enabled = by_action
       let done = performs semantics s p a process action keep free fits room is stands ready in
       record { next = done.0.0; sends = done.0.1; is = acts_when semantics s p a action done.0 settled up at ready done.1 })
 
--- ---- nothing waits
-
-take_none : (k : ℕ) (xs : List Cell) → Each (λ x. is_error x ≡ false) xs → list_any is_error (take k xs) ≡ false
-take_none zero xs h = refl
-take_none (suc k) [] h = refl
-take_none (suc k) (x ∷ xs) h = let first = h.0 in let rest = take_none k xs h.1 in rw (first, rest) refl
-
-no_error : (channels : List Channel) (p : ℕ) → Each (λ c. Each (λ x. is_error x ≡ false) c.cells) channels → error_waits channels p ≡ false
-no_error [] p h = refl
-no_error (c ∷ cs) p h =
-    let here = take_none c.mark c.cells h.0 in let rest = no_error cs p h.1 in both (c.to == p) (list_any is_error (take c.mark c.cells)) (error_waits cs p) here rest where
-      both : (b d e : Bool) → d ≡ false → e ≡ false → ((b && d) || e) ≡ false
-      both true d e h k = rw (h, k) refl
-      both false d e h k = k
-
--- ---- a turn
-
-live : (s : State) (p : ℕ) (down : Bool) → slice_get s.down p ≡ Some down → down ≡ false → is_live s p ≡ true
-live s p down is up = rw (is, up) refl
-
--- an enabled action as an entry of its process
-entry : (semantics : Semantics) (s : State) (p b : ℕ) (process : ProcessSemantics) → slice_get semantics.processes p ≡ Some process
-    → is_enabled semantics s p b ≡ is_yes (option_map (is_ready s p) (slice_get process.actions b))
-entry semantics s p b process is = rw is refl
-
-entries : (semantics : Semantics) (s : State) (p : ℕ) (process : ProcessSemantics) → slice_get semantics.processes p ≡ Some process → any_enabled semantics s p ≡ list_any (is_ready s p) process.actions
-entries semantics s p process is = rw is refl
+-- ---- a reading
 
 tick_when : (semantics : Semantics) (s : State) (p c time : ℕ) (timers : List TimerState) → s.falling ≡ None → is_live s p ≡ true → slice_get s.times p ≡ Some time → slice_get s.timers p ≡ Some timers
     → step semantics s (label.Tick p c) ≡ Some (tick_to s p (time_after time c) timers, [])
 tick_when semantics s p c time timers settled up timed armed = rw (settled, timed, armed, up) refl
 
-idle_when : (semantics : Semantics) (s : State) (p : ℕ) → s.falling ≡ None → is_live s p ≡ true → any_enabled semantics s p ≡ false → error_waits s.channels p ≡ false
-    → step semantics s (label.Idle p) ≡ Some (s, [])
-idle_when semantics s p settled up none clean = rw (settled, up, none, clean) refl
+live_there : (s : State) (p : ℕ) → is_live s p ≡ true → (down : Bool) × (slice_get s.down p ≡ Some down)
+live_there s p h = by_entry (slice_get s.down p) refl h where
+  by_entry : (o : Option Bool) → slice_get s.down p ≡ o → is_yes (option_map not o) ≡ true → (down : Bool) × (slice_get s.down p ≡ Some down)
+  by_entry None is h = cc
+  by_entry (Some down) is h = (down, is)
 
-busy_when : (semantics : Semantics) (s : State) (p : ℕ) → s.falling ≡ None → is_live s p ≡ true → any_enabled semantics s p ≡ true → step semantics s (label.Idle p) ≡ None
-busy_when semantics s p settled up some = rw (settled, up, some) refl
+-- a process that is not down is one of the system
+pub live_process : (semantics : Semantics) (s : State) (p : ℕ) → Fits semantics s → is_live s p ≡ true → (process : ProcessSemantics) × (slice_get semantics.processes p ≡ Some process)
+live_process semantics s p fits up = let x = live_there s p up in element_beside semantics.processes s.down p x.0 (sym fits.entries.down) x.1
 
-room_by : (cs : List Channel) (n : ℕ) → count cs + n ≤ most_cells → Each (λ (c : Channel). length c.cells + n ≤ most_cells) cs
+pub ticks_go_on : TicksGoOn
+ticks_go_on semantics s p c fits settled up =
+    let at = here semantics s p (live_process semantics s p fits up).0 fits (live_process semantics s p fits up).1 in
+    record { next = tick_to s p (time_after at.time c) at.timers; sends = []; is = tick_when semantics s p c at.time at.timers settled up at.read at.timed }
+
+-- ---- room
+
+pub room_by : (cs : List Channel) (n : ℕ) → count cs + n ≤ most_cells → Each (λ (c : Channel). length c.cells + n ≤ most_cells) cs
 room_by [] n h = tt
 room_by (c ∷ cs) n h = (omega (arith, h, count_next c cs), room_by cs n (omega (arith, h, count_next c cs)))
 
-pub turns_go_on : TurnsGoOn
-turns_go_on semantics s p process keep free fits calm few is =
-    let downs = element_beside s.down semantics.processes p process fits.entries.down is in
-    let up = live s p downs.0 downs.1 (each_at (λ d. d ≡ false) s.down p downs.0 calm.up downs.1) in
-    let at = here semantics s p process fits is in
-    let settled = calm.settled in
-    record {
-      reads = λ c. record { next = tick_to s p (time_after at.time c) at.timers; sends = []; is = tick_when semantics s p c at.time at.timers settled up at.read at.timed };
-      acts = λ a enabled. actions_go_on semantics s p a keep free fits settled up (room_by s.channels most_sends few) enabled;
-      idles = λ first.
-          record {
-            next = s;
-            sends = [];
-            is = idle_when semantics s p settled up
-                (entries semantics s p process is ∙ none_any (is_ready s p) process.actions (λ b l. sym (entry semantics s p b process is) ∙ first b l))
-                (no_error s.channels p calm.sound);
-          };
-      busy = λ a enabled. busy_when semantics s p settled up (entries semantics s p process is ∙ some_any (is_ready s p) process.actions a (sym (entry semantics s p a process is) ∙ enabled));
-    }
+-- ---- a stop
+
+fall_when : (semantics : Semantics) (s : State) (f : Falling) (channels : List Channel) → s.falling ≡ Some f → taken_back f.process f.receivers s.channels ≡ Some channels
+    → step semantics s (label.Stop f.process f.receivers) ≡ Some (record (put_down s f.process) { channels = channels }, [])
+fall_when semantics s f channels falls back =
+    let same = eq-eqb f.process f.process refl in let receivers = (bytes_eq-Decides f.receivers f.receivers).1 refl in rw (falls, same, receivers, back) refl
+
+pub falls_go_on : FallsGoOn
+falls_go_on semantics s f fits falls =
+    let some = some_fits s f s.falling falls fits.falling in
+    let back = can_take_back f.process f.receivers s.channels fits.channels (flies_from s f f.process f.receivers some refl refl) in
+    record { next = record (put_down s f.process) { channels = back.0 }; sends = []; is = fall_when semantics s f back.0 falls back.1 }
+
+is_some_by : {A : Type 0} (o : Option A) (x : A) → o ≡ Some x → IsSome o
+is_some_by None x e = cc
+is_some_by (Some y) x e = refl
+
+-- what falls can be taken back
+pub fall_can : (semantics : Semantics) (s : State) → Fits semantics s → IfSome s.falling (λ f. IsSome (taken_back f.process f.receivers s.channels))
+fall_can semantics s fits = by_falling s.falling fits.falling where
+  by_falling : (o : Option Falling) → IfSome o (FallingFits s) → IfSome o (λ f. IsSome (taken_back f.process f.receivers s.channels))
+  by_falling None h = tt
+  by_falling (Some f) h =
+      let back = can_take_back f.process f.receivers s.channels fits.channels (flies_from s f f.process f.receivers h refl refl) in is_some_by (taken_back f.process f.receivers s.channels) back.0 back.1

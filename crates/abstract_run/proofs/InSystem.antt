@@ -15,8 +15,8 @@ use Rattle.abstract_run.specs.Channels.{error_waits}
 use Rattle.abstract_run.specs.Enabled.{any_enabled, guard_holds, is_ready}
 use Rattle.abstract_run.specs.Fits.{Fits}
 use Rattle.abstract_run.specs.Safe.{IsComputed}
-use Rattle.abstract_run.specs.Semantics.{ProcessSemantics, action_at, messages_of, semantics_of}
-use Rattle.abstract_run.specs.Step.{acted, is_idle, is_live}
+use Rattle.tap_exec.specs.Semantics.{ProcessSemantics, action_at, messages_of, semantics_of}
+use Rattle.abstract_run.specs.Step.{acted, any_pressing, is_idle, is_live, is_pressing, is_receive}
 use Rattle.abstract_run.proofs.Acted.{acted_at, acted_is, acted_none}
 use Rattle.abstract_run.proofs.Idle.{idle_by_marks}
 use Rattle.abstract_run.proofs.SameSteps.{same_any_enabled}
@@ -62,6 +62,29 @@ any_enabled_some system s p process is =
 
 pub any_enabled_none : (system : System) (s : State) (p : ℕ) → slice_get system.processes p ≡ None → any_enabled (computed_semantics system) s p ≡ false
 any_enabled_none system s p is = ap (AnyReady s p) (slice_get-map (computed_process (messages_of system)) system.processes p ∙ ap (option_map (computed_process (messages_of system))) is)
+
+-- ---- actions that receive nothing
+
+-- an action that receives nothing is ready, as the code finds it
+abbrev pub any_pressing_in : State → ℕ → List Action → Bool
+any_pressing_in s p as_ = list_any (λ (a : Action). not (is_receive (computed_guard a.guard)) && is_yes (guard_holds s p (computed_guard a.guard))) as_
+
+pressing_by_guards : (messages : List (List WireField)) (s : State) (p : ℕ) (as_ : List Action)
+    → list_any (is_pressing s p) (map (computed_action messages) as_) ≡ any_pressing_in s p as_
+pressing_by_guards messages s p [] = refl
+pressing_by_guards messages s p (a ∷ as_) = let more = pressing_by_guards messages s p as_ in rw more refl
+
+abbrev AnyPressing : State → ℕ → Option ProcessSemantics → Bool
+AnyPressing s p o = is_yes (option_map (λ (q : ProcessSemantics). list_any (is_pressing s p) q.actions) o)
+
+pub any_pressing_some : (system : System) (s : State) (p : ℕ) (process : Process) → slice_get system.processes p ≡ Some process
+    → any_pressing (computed_semantics system) s p ≡ any_pressing_in s p process.actions
+any_pressing_some system s p process is =
+    ap (AnyPressing s p) (slice_get-map (computed_process (messages_of system)) system.processes p ∙ ap (option_map (computed_process (messages_of system))) is)
+    ∙ pressing_by_guards (messages_of system) s p process.actions
+
+pub any_pressing_none : (system : System) (s : State) (p : ℕ) → slice_get system.processes p ≡ None → any_pressing (computed_semantics system) s p ≡ false
+any_pressing_none system s p is = ap (AnyPressing s p) (slice_get-map (computed_process (messages_of system)) system.processes p ∙ ap (option_map (computed_process (messages_of system))) is)
 
 -- ---- an idle turn
 

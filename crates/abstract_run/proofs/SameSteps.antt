@@ -1,21 +1,24 @@
 -- Two records that agree have the same steps from each fitting state.
-use Rattle.std.proofs.Common.{◌≡◌, ◌&&◌, ℕ, zero, suc, ℤ, Bool, true, false, not, List, [], ◌∷◌, length, refl, ap, sym, ◌∙◌, slice_get, Option, Some, None, is_none, if◌then◌else◌, arith}
+use Rattle.std.proofs.Common.{◌≡◌, ◌&&◌, ℕ, zero, suc, ℤ, Bool, true, false, not, List, [], ◌∷◌, length, refl, ap, sym, ◌∙◌, slice_get, flat_map, Option, Some, None, if◌then◌else◌, arith}
 use Rattle.std.specs.List.{list_any}
 use Rattle.std.specs.Option.{option_map}
+use Rattle.tap_base.specs.Faults.{changed_to}
 use Rattle.tap_base.specs.Lists.{EachBoth}
 use Rattle.tap_base.specs.Option.{◌>>=◌, is_yes, provided}
 use Rattle.tap_exec.specs.declared.running.Running.{Running}
 use Rattle.tap_exec.specs.declared.running.TimerState.{TimerState}
+use Rattle.byte_meaning.specs.Reading.{heard, heard_by, heard_in, meaning, meaning_among}
 use Rattle.abstract_run.specs.declared.label.Label.{Label}
 use Rattle.abstract_run.specs.declared.label.Label.TheVariants as label
 use Rattle.abstract_run.specs.declared.state.Channel.{Channel}
+use Rattle.abstract_run.specs.declared.state.Falling.{Falling}
 use Rattle.abstract_run.specs.declared.state.State.{State}
-use Rattle.abstract_run.specs.Channels.{all_sent, error_waits}
+use Rattle.abstract_run.specs.Channels.{all_sent, appended, error_waits}
 use Rattle.abstract_run.specs.Enabled.{any_enabled, guard_holds, is_enabled, is_ready}
 use Rattle.abstract_run.specs.Fits.{Fits}
 use Rattle.abstract_run.specs.Safe.{Agrees, SameAction, SameGuard, SameProcess, SameSteps, receives, tests, timeouts}
-use Rattle.abstract_run.specs.Semantics.{ActionSemantics, GuardSemantics, ProcessSemantics, Semantics, action_at}
-use Rattle.abstract_run.specs.Step.{After, acted, body_run, channels_at, is_empty, is_live, performed, received, settled_step, silent, timers_at}
+use Rattle.tap_exec.specs.Semantics.{ActionSemantics, GuardSemantics, ProcessSemantics, Semantics, action_at}
+use Rattle.abstract_run.specs.Step.{After, acted, any_pressing, body_run, channel_changed, channels_at, flight_changed, is_empty, is_live, is_pressing, is_receive, performed, received, settled_step, silent, step_by, timers_at}
 use Rattle.abstract_run.proofs.Acted.{acted_at, acted_is, acted_none, is_both, left_by}
 use Rattle.abstract_run.proofs.Begins.{Begins, Here, begins, body_run_is, here, start}
 
@@ -149,14 +152,70 @@ acted_same one other s p a choices agree fits = by_action (actions_beside one ot
   by_action (there process x y is h k same) =
       acted_is one s p a choices x h ∙ acted_at_same other s p process x y choices fits is same ∙ sym (acted_is other s p a choices y k)
 
+-- ---- floods
+
+receives_same : (process : ProcessSemantics) {g h : GuardSemantics} → SameGuard process g h → is_receive g ≡ is_receive h
+receives_same process (tests same) = refl
+receives_same process receives = refl
+receives_same process timeouts = refl
+
+any_pressing_same : (semantics : Semantics) (s : State) (p : ℕ) (process : ProcessSemantics) (xs ys : List ActionSemantics) → Here semantics s p process → length xs ≡ length ys
+    → EachBoth (SameAction semantics process) xs ys → list_any (is_pressing s p) xs ≡ list_any (is_pressing s p) ys
+any_pressing_same semantics s p process [] [] at e h = refl
+any_pressing_same semantics s p process [] (y ∷ ys) at e h = absurd (omega (arith, e))
+any_pressing_same semantics s p process (x ∷ xs) [] at e h = absurd (omega (arith, e))
+any_pressing_same semantics s p process (x ∷ xs) (y ∷ ys) at e h =
+    let kind = receives_same process h.0.guard in
+    let first = ready_same semantics s p process x y at h.0 in
+    let rest = any_pressing_same semantics s p process xs ys at (omega (arith, e)) h.1 in
+    rw (kind, first, rest) refl
+
+pub same_any_pressing : (one other : Semantics) (s : State) (p : ℕ) → Agrees one other → Fits other s → any_pressing one s p ≡ any_pressing other s p
+same_any_pressing one other s p agree fits = by_process (processes_beside one other p agree) where
+  by_process : Beside (SameProcess other) (slice_get one.processes p) (slice_get other.processes p) → any_pressing one s p ≡ any_pressing other s p
+  by_process (neither h k) = rw (h, k) refl
+  by_process (both q r is at same) =
+      let all = any_pressing_same other s p r q.actions r.actions (here other s p r fits at) same.counted same.actions in rw (is, at, all) refl
+
+-- ---- what bytes mean
+
+heard_same : (q : ℕ) (process : ProcessSemantics) {g h : GuardSemantics} → SameGuard process g h → heard_by q g ≡ heard_by q h
+heard_same q process (tests same) = refl
+heard_same q process receives = refl
+heard_same q process timeouts = refl
+
+all_heard_same : (semantics : Semantics) (q : ℕ) (process : ProcessSemantics) (xs ys : List ActionSemantics) → length xs ≡ length ys → EachBoth (SameAction semantics process) xs ys
+    → flat_map (λ (a : ActionSemantics). heard_by q a.guard) xs ≡ flat_map (λ (a : ActionSemantics). heard_by q a.guard) ys
+all_heard_same semantics q process [] [] e h = refl
+all_heard_same semantics q process [] (y ∷ ys) e h = absurd (omega (arith, e))
+all_heard_same semantics q process (x ∷ xs) [] e h = absurd (omega (arith, e))
+all_heard_same semantics q process (x ∷ xs) (y ∷ ys) e h =
+    let first = heard_same q process h.0.guard in let rest = all_heard_same semantics q process xs ys (omega (arith, e)) h.1 in rw (first, rest) refl
+
+same_heard : (one other : Semantics) (q p : ℕ) → Agrees one other → heard one q p ≡ heard other q p
+same_heard one other q p agree = by_process (processes_beside one other p agree) where
+  by_process : Beside (SameProcess other) (slice_get one.processes p) (slice_get other.processes p) → heard_in q (slice_get one.processes p) ≡ heard_in q (slice_get other.processes p)
+  by_process (neither h k) = rw (h, k) refl
+  by_process (both x y is at same) = let all = all_heard_same other q y x.actions y.actions same.counted same.actions in rw (is, at) all
+
+-- Two records that agree give bytes one meaning.
+pub same_meaning : (one other : Semantics) (q p : ℕ) (bytes : List ℕ) → Agrees one other → meaning one q p bytes ≡ meaning other q p bytes
+same_meaning one other q p bytes agree =
+    ap (λ ms. meaning_among ms (heard one q p) bytes) agree.messages ∙ ap (λ ns. meaning_among other.messages ns bytes) (same_heard one other q p agree)
+
 -- ---- steps
 
 settled_same : (one other : Semantics) (s : State) (l : Label) → Agrees one other → Fits other s → settled_step one s l ≡ settled_step other s l
-settled_same one other s (label.Tick p c) agree fits = refl
 settled_same one other s (label.Act p a choices) agree fits = acted_same one other s p a choices agree fits
 settled_same one other s (label.Idle p) agree fits =
     ap (λ any. silent (provided (is_live s p && not any && not (error_waits s.channels p)) s)) (same_any_enabled one other s p agree fits)
+settled_same one other s (label.Flood p) agree fits = ap (λ any. silent (provided (is_live s p && not any) s)) (same_any_pressing one other s p agree fits)
+settled_same one other s (label.Damage q p i bytes) agree fits = ap (λ x. silent (flight_changed (changed_to i x) s q p)) (same_meaning one other q p bytes agree)
+settled_same one other s (label.Forge q p bytes) agree fits = ap (λ x. silent (channel_changed (appended x) s q p)) (same_meaning one other q p bytes agree)
 settled_same one other s _ agree fits = refl
 
 pub same_steps : SameSteps
-same_steps one other s l agree fits = ap (λ o. if is_none s.falling then o else None) (settled_same one other s l agree fits)
+same_steps one other s l agree fits = by_falling s.falling where
+  by_falling : (o : Option Falling) → step_by one s l o ≡ step_by other s l o
+  by_falling None = settled_same one other s l agree fits
+  by_falling (Some f) = refl

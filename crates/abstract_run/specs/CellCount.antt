@@ -4,7 +4,7 @@ use Rattle.abstract_run.specs.declared.label.Label.{Label}
 use Rattle.abstract_run.specs.declared.label.Label.TheVariants as label
 use Rattle.abstract_run.specs.declared.state.State.{State}
 use Rattle.tap_exec.specs.declared.running.Outgoing.{Outgoing}
-use Rattle.abstract_run.specs.Semantics.{Semantics, ActionSemantics, GuardSemantics, receive, action_at}
+use Rattle.tap_exec.specs.Semantics.{Semantics, ActionSemantics, GuardSemantics, receive, action_at}
 
 -- how many cells stand in all channels
 abbrev pub cells_in : State → ℕ
@@ -19,12 +19,20 @@ abbrev pub cells_taken_by : Option ActionSemantics → ℕ
 cells_taken_by None = 0
 cells_taken_by (Some action) = cells_received action.guard
 
--- how many cells a label takes out: that of a receive, or of a loss
+-- how many cells a label takes out: that of a receive, of a reject or of a loss, and the sends that failed
 abbrev pub cells_taken : Semantics → Label → ℕ
 cells_taken semantics (label.Act p a choices) = cells_taken_by (action_at semantics p a)
+cells_taken semantics (label.Reject q p i) = 1
 cells_taken semantics (label.Lose q p i) = 1
+cells_taken semantics (label.Stop p receivers) = length receivers
 cells_taken semantics _ = 0
 
--- Behind a step there are as many cells as before, less what its label takes out, and those that were sent.
+-- how many cells a label puts in beside the sends of an action: a copy, or a forged one
+abbrev pub cells_put : Label → ℕ
+cells_put (label.Copy q p i) = 1
+cells_put (label.Forge q p bytes) = 1
+cells_put _ = 0
+
+-- Behind a step there are as many cells as before, less what its label takes out, and those that it puts in or sends.
 abbrev pub CountsCells : Semantics → Label → State → List Outgoing → State → Type 0
-CountsCells semantics l old sends new = cells_in new + cells_taken semantics l ≡ cells_in old + length sends
+CountsCells semantics l old sends new = cells_in new + cells_taken semantics l ≡ cells_in old + (cells_put l + length sends)

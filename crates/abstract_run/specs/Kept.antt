@@ -7,9 +7,9 @@ use Rattle.abstract_run.specs.declared.label.Label.TheVariants as label
 use Rattle.abstract_run.specs.declared.state.State.{State}
 use Rattle.abstract_run.specs.CellCount.{CountsCells}
 use Rattle.abstract_run.specs.Fits.{Fits}
-use Rattle.abstract_run.specs.Messages.{IsFitSend, most_sends}
+use Rattle.byte_meaning.specs.Messages.{IsFitSend, most_sends}
 use Rattle.abstract_run.specs.Safe.{BodiesKeepRanges}
-use Rattle.abstract_run.specs.Semantics.{Semantics}
+use Rattle.tap_exec.specs.Semantics.{Semantics}
 use Rattle.abstract_run.specs.Step.{step}
 
 -- An action of p sends at most 64 messages, each a fitting one of p. Every other label sends none.

@@ -5,7 +5,7 @@ use Rattle.tap_base.specs.declared.system.Inputs.{Inputs}
 use Rattle.abstract_run.specs.declared.state.State.{State}
 use Rattle.tap_exec.specs.declared.running.TimerState.TheVariants.{Off}
 use Rattle.abstract_run.specs.Channels.{channels_among}
-use Rattle.abstract_run.specs.Semantics.{Semantics}
+use Rattle.tap_exec.specs.Semantics.{Semantics}
 
 -- the cells of the variables, each with its initial value
 abbrev pub opening_cells : List Var → List ℤ

@@ -4,18 +4,16 @@ use Rattle.tap_base.specs.Lists.{Each}
 use Rattle.abstract_run.specs.declared.label.Label.{Label}
 use Rattle.abstract_run.specs.declared.label.Label.TheVariants as label
 use Rattle.abstract_run.specs.declared.state.Channel.{Channel}
+use Rattle.abstract_run.specs.declared.state.Falling.{Falling}
 use Rattle.tap_exec.specs.declared.running.Outgoing.{Outgoing}
 use Rattle.tap_exec.specs.declared.running.Running.{Running}
 use Rattle.abstract_run.specs.declared.state.State.{State}
-use Rattle.abstract_run.specs.Calm.{IsCalm}
-use Rattle.abstract_run.specs.CellCount.{cells_in}
 use Rattle.abstract_run.specs.Channels.{most_cells}
 use Rattle.abstract_run.specs.Enabled.{is_enabled}
 use Rattle.abstract_run.specs.Fits.{Fits}
-use Rattle.abstract_run.specs.Messages.{most_sends}
-use Rattle.abstract_run.specs.Run.{IsFirst}
+use Rattle.byte_meaning.specs.Messages.{most_sends}
 use Rattle.abstract_run.specs.Safe.{BodiesKeepRanges, IsBeginning}
-use Rattle.abstract_run.specs.Semantics.{Semantics, ActionSemantics, ProcessSemantics}
+use Rattle.tap_exec.specs.Semantics.{Semantics, ActionSemantics, ProcessSemantics}
 use Rattle.abstract_run.specs.Step.{is_live, step}
 
 -- the label is possible
@@ -40,15 +38,10 @@ abbrev pub ActionsGoOn : Type 0
 ActionsGoOn = (semantics : Semantics) (s : State) (p a : ℕ) → BodiesKeepRanges semantics → NeedsNoChoice semantics → Fits semantics s → s.falling ≡ None → is_live s p ≡ true
     → Each HasRoom s.channels → is_enabled semantics s p a ≡ true → IsPossible semantics s (label.Act p a [])
 
--- Every reading is possible. So is every enabled action, without a choice. Where none is enabled, so is an idle turn,
--- and only there.
-pub record CanTurn (semantics : Semantics) (s : State) (p actions : ℕ) : Type 0 where
-  pub reads : (c : ℕ) → IsPossible semantics s (label.Tick p c)
-  pub acts : (a : ℕ) → is_enabled semantics s p a ≡ true → IsPossible semantics s (label.Act p a [])
-  pub idles : IsFirst semantics s p actions → IsPossible semantics s (label.Idle p)
-  pub busy : (a : ℕ) → is_enabled semantics s p a ≡ true → step semantics s (label.Idle p) ≡ None
+-- In a fitting state with nothing falling each process that is not down can take any reading.
+abbrev pub TicksGoOn : Type 0
+TicksGoOn = (semantics : Semantics) (s : State) (p c : ℕ) → Fits semantics s → s.falling ≡ None → is_live s p ≡ true → IsPossible semantics s (label.Tick p c)
 
--- There, in a calm state each process has a turn, while the channels are far from full.
-abbrev pub TurnsGoOn : Type 0
-TurnsGoOn = (semantics : Semantics) (s : State) (p : ℕ) (process : ProcessSemantics) → BodiesKeepRanges semantics → NeedsNoChoice semantics → Fits semantics s → IsCalm s
-    → cells_in s + most_sends ≤ most_cells → slice_get semantics.processes p ≡ Some process → CanTurn semantics s p (length process.actions)
+-- Where a cut falls in a fitting state, the stop that it asks for is possible.
+abbrev pub FallsGoOn : Type 0
+FallsGoOn = (semantics : Semantics) (s : State) (f : Falling) → Fits semantics s → s.falling ≡ Some f → IsPossible semantics s (label.Stop f.process f.receivers)

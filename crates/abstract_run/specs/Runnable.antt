@@ -4,7 +4,7 @@ use Rattle.tap_base.specs.declared.system.System.{System}
 use Rattle.tap_base.specs.Lists.{Each}
 use Rattle.abstract_run.specs.Progress.{NeedsNoChoice}
 use Rattle.abstract_run.specs.Safe.{IsSafe}
-use Rattle.abstract_run.specs.Semantics.{semantics_of}
+use Rattle.tap_exec.specs.Semantics.{semantics_of}
 
 -- It keeps its ranges, and no body needs a choice; each field has at most 63 bits, and actions are counted in 32 bits.
 pub record IsRunnable (system : System) : Type 0 where

@@ -6,6 +6,7 @@ use Rattle.tap_base.specs.declared.system.Var.{Var}
 use Rattle.tap_base.specs.Interval.{IsIn}
 use Rattle.tap_base.specs.Lists.{Each, EachBoth}
 use Rattle.tap_base.specs.Ranges.{AreAllIn, ranges_of}
+use Rattle.tap_base.specs.Resolved.{IsMessage}
 use Rattle.tap_exec.specs.declared.running.Running.{Running}
 use Rattle.tap_exec.specs.declared.running.Outgoing.{Outgoing}
 use Rattle.tap_exec.specs.Front.{TakesFromFront}
@@ -13,8 +14,8 @@ use Rattle.abstract_run.specs.declared.label.Label.{Label}
 use Rattle.abstract_run.specs.declared.state.State.{State}
 use Rattle.abstract_run.specs.inner.ComputedSemantics.{computed_semantics}
 use Rattle.abstract_run.specs.Fits.{Fits, IsFitTimer}
-use Rattle.abstract_run.specs.Messages.{AreReceived, IsFitSend, most_sends}
-use Rattle.abstract_run.specs.Semantics.{Semantics, ProcessSemantics, ActionSemantics, GuardSemantics, local, receive, timeout, input_ranges, semantics_of}
+use Rattle.byte_meaning.specs.Messages.{AreReceived, IsFitSend, most_sends}
+use Rattle.tap_exec.specs.Semantics.{Semantics, ProcessSemantics, ActionSemantics, GuardSemantics, local, receive, timeout, input_ranges, semantics_of}
 use Rattle.abstract_run.specs.Step.{step}
 
 -- ---- it begins within its ranges
@@ -107,7 +108,10 @@ SameSteps = (one other : Semantics) (s : State) (l : Label) → Agrees one other
 abbrev pub IsComputed : System → Type 0
 IsComputed system = Agrees (computed_semantics system) (semantics_of system)
 
+-- Its messages are declared well, variables begin within their ranges and bodies keep them, and 64-bit numbers compute
+-- what it says.
 pub record IsSafe (system : System) : Type 0 where
+  pub messages : Each IsMessage system.messages
   pub begins : BeginsInRange (semantics_of system)
   pub keeps : BodiesKeepRanges (semantics_of system)
   pub computed : IsComputed system

@@ -1,4 +1,3 @@
 pub mod Among
 pub mod ComputedSemantics
 pub mod Does
-pub mod Packing

@@ -1,7 +1,7 @@
 //! Laws of steps: what decides them, what they keep, and where they go on.
 
 ghost use Rattle.abstract_run.specs.Kept.{StepsKeep};
-ghost use Rattle.abstract_run.specs.Progress.{ActionsGoOn, TurnsGoOn};
+ghost use Rattle.abstract_run.specs.Progress.{ActionsGoOn, FallsGoOn, TicksGoOn};
 ghost use Rattle.abstract_run.specs.Safe.{SameSteps};
 
 /// Two records that say the same have the same steps from each fitting state.
@@ -21,8 +21,12 @@ pub fn actions_go_on()
     ensures { ActionsGoOn }
 {}
 
-/// There, in a calm state each process can take any reading, and then run any enabled action, or
-/// where there is none have an idle turn, while the channels are far from full.
-pub fn turns_go_on()
-    ensures { TurnsGoOn }
+/// In a fitting state with nothing falling each process that is not down can take any reading.
+pub fn ticks_go_on()
+    ensures { TicksGoOn }
+{}
+
+/// Where a cut falls in a fitting state, the stop that it asks for is possible.
+pub fn falls_go_on()
+    ensures { FallsGoOn }
 {}

@@ -6,27 +6,22 @@ mod arrivals;
 mod bodies;
 mod channels;
 mod enabling;
+mod faults;
 mod guards;
 mod label;
 mod laws;
-mod losses;
 mod opening;
 mod sending;
-mod spelling;
 mod state;
 mod steps;
+mod stops;
 mod ticks;
-mod worked;
 
+pub use byte_meaning::{Cell, meaning, spell};
 pub use enabling::enabled;
 pub use label::{Event, Label};
-pub use laws::{actions_go_on, same_steps, steps_keep_fitting, turns_go_on};
+pub use laws::{actions_go_on, falls_go_on, same_steps, steps_keep_fitting, ticks_go_on};
 pub use opening::init;
-pub use spelling::spell;
-pub use state::{Cell, Channel, Falling, State, StepFault};
+pub use state::{Channel, Falling, State, StepFault};
 pub use steps::step;
 pub use tap_exec::{Outgoing, Running, TimerState};
-pub use worked::{
-    fitting_is_worked, losses_are_worked, messages_are_worked, spellings_are_worked,
-    steps_are_worked,
-};

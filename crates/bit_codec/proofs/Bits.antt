@@ -7,8 +7,8 @@ use Rattle.std.proofs.lemmas.List.Concat.{flat_map-append}
 use Rattle.std.proofs.Math.Nat.{pow-suc}
 use Rattle.std.proofs.lemmas.Nat.{shr-shr}
 use Rattle.tap_base.specs.declared.wire.WireField.{WireField}
-use Rattle.abstract_run.specs.Messages.{AreFields}
-use Rattle.abstract_run.specs.Spelling.{all_digits, digits, padded, spelling}
+use Rattle.byte_meaning.specs.Messages.{AreFields}
+use Rattle.byte_meaning.specs.Spelling.{all_digits, digits, padded, spelling}
 use Rattle.byte_meaning.specs.Apart.{bit_length, byte_length}
 use Rattle.byte_meaning.specs.Reading.{bits_of}
 use Rattle.byte_meaning.proofs.Digits.{below_take, digit_at, length_bits, length_digits}

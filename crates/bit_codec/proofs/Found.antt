@@ -5,9 +5,9 @@ use Rattle.std.specs.Option.{option_map}
 use Rattle.std.proofs.lemmas.Option.{same_Some}
 use Rattle.tap_base.specs.declared.wire.Wire.{Wire}
 use Rattle.tap_base.specs.declared.wire.WireField.{WireField}
-use Rattle.abstract_run.specs.declared.state.Cell.TheVariants as cell
-use Rattle.abstract_run.specs.Messages.{AreFields, AreValuesOf}
-use Rattle.abstract_run.specs.Spelling.{spelling}
+use Rattle.byte_meaning.specs.declared.cell.Cell.TheVariants as cell
+use Rattle.byte_meaning.specs.Messages.{AreFields, AreValuesOf}
+use Rattle.byte_meaning.specs.Spelling.{spelling}
 use Rattle.byte_meaning.specs.Apart.{bit_length, byte_length}
 use Rattle.byte_meaning.specs.Meaning.{HasReceive, Means}
 use Rattle.byte_meaning.specs.Reading.{bits_of, values_by, values_spelled}

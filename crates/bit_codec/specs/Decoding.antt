@@ -1,7 +1,7 @@
 -- What a decoder answers.
 use Rattle.std.specs.Prelude.{◌≡◌, ℕ, ℤ, List, ◌++◌, drop, length, Option, Some, None}
 use Rattle.tap_base.specs.declared.wire.Wire.{Wire}
-use Rattle.abstract_run.specs.declared.state.Cell.TheVariants as cell
+use Rattle.byte_meaning.specs.declared.cell.Cell.TheVariants as cell
 use Rattle.byte_meaning.specs.Meaning.{HasReceive, Means}
 
 -- Of bytes from q to p: the message that they mean, and its values stand at the front; or none where they mean an error, and

@@ -3,8 +3,8 @@
 ghost use Rattle.std.specs.Prelude.{◌≡◌, ◌*◌, ◌≤◌, ◌++◌, List, Some, drop, length, slice_get, unsigned_abs};
 ghost use Rattle.tap_base.specs.declared.wire.WireField.{WireField};
 ghost use Rattle.tap_base.specs.Lists.{Each};
-ghost use Rattle.abstract_run.specs.Messages.{AreFields, AreValuesOf};
-ghost use Rattle.abstract_run.specs.Spelling.{all_digits, spelling};
+ghost use Rattle.byte_meaning.specs.Messages.{AreFields, AreValuesOf};
+ghost use Rattle.byte_meaning.specs.Spelling.{all_digits, spelling};
 ghost use Rattle.byte_meaning.specs.Apart.{bit_length};
 ghost use Rattle.message_layout.specs.Lengths.{length_of};
 ghost use Rattle.message_layout.specs.Wires.{IsField};

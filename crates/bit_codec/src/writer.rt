@@ -1,7 +1,7 @@
 //! Bits into a room of bytes, one after another.
 
 ghost use Rattle.std.specs.Prelude.{◌≡◌, ◌+◌, ◌*◌, ◌<◌, ◌≤◌, [], ◌∷◌, length};
-ghost use Rattle.abstract_run.specs.Spelling.{digits};
+ghost use Rattle.byte_meaning.specs.Spelling.{digits};
 ghost use Rattle.bit_codec.specs.inner.Puts.{IsFilled, IsReady, Puts};
 
 /// Where the next bit goes: how many bytes are whole, and the bits behind them, which are fewer than 8,

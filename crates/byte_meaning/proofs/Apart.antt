@@ -5,10 +5,10 @@ use Rattle.std.proofs.lemmas.Bool.{cases_order}
 use Rattle.tap_base.specs.declared.wire.WireField.{WireField}
 use Rattle.tap_base.specs.Interval.{IsIn, field_range}
 use Rattle.tap_base.specs.Ranges.{AreIn}
-use Rattle.abstract_run.specs.declared.state.Cell.{Cell}
-use Rattle.abstract_run.specs.declared.state.Cell.TheVariants as cell
-use Rattle.abstract_run.specs.Messages.{AreFields, Receives}
-use Rattle.abstract_run.specs.Spelling.{digits, all_digits, spelling}
+use Rattle.byte_meaning.specs.declared.cell.Cell.{Cell}
+use Rattle.byte_meaning.specs.declared.cell.Cell.TheVariants as cell
+use Rattle.byte_meaning.specs.Messages.{AreFields, Receives}
+use Rattle.byte_meaning.specs.Spelling.{digits, all_digits, spelling}
 use Rattle.byte_meaning.specs.Apart.{bit_length, fixed_bits, pattern, Apart, TellsApart}
 use Rattle.byte_meaning.specs.Laws.{SpellingsMean, OneMeaning, SpellingsAreRead, SystemsMean, WiresMean}
 use Rattle.byte_meaning.specs.Meaning.{HasReceive, Means, Spells}

@@ -5,7 +5,7 @@ use Rattle.std.proofs.lemmas.Nat.{mod-pow-add, shr-shr, pow_pos}
 use Rattle.std.proofs.Math.Nat.{pow-suc, mod-eq_of_lt}
 use Rattle.std.proofs.lemmas.Nat.Bits.{bit_at-lt, bit_at-zero}
 use Rattle.std.proofs.lemmas.List.{get_or_append_left, get_or-append-add}
-use Rattle.abstract_run.specs.Spelling.{digits, grouped}
+use Rattle.byte_meaning.specs.Spelling.{digits, grouped}
 use Rattle.byte_meaning.specs.Reading.{bits_of}
 
 -- ---- digits of a number

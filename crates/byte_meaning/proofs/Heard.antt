@@ -4,8 +4,8 @@ use Rattle.std.specs.Prelude.{slice_get, ◌==◌, if◌then◌else◌}
 use Rattle.std.specs.List.{Contains}
 use Rattle.std.proofs.lemmas.Bool.Decides.{Decides-eqb}
 use Rattle.tap_base.specs.Option.{◌>>=◌}
-use Rattle.abstract_run.specs.Messages.{Receives}
-use Rattle.abstract_run.specs.Semantics.{Semantics, ActionSemantics, ProcessSemantics, GuardSemantics, local, receive, timeout, action_at}
+use Rattle.byte_meaning.specs.Messages.{Receives}
+use Rattle.tap_exec.specs.Semantics.{Semantics, ActionSemantics, ProcessSemantics, GuardSemantics, local, receive, timeout, action_at}
 use Rattle.byte_meaning.specs.Reading.{heard_by, heard_in, heard}
 use Rattle.byte_meaning.proofs.Elements.{flat_given, flat_giver, itself, no_element, one_element}
 

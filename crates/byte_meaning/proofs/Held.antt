@@ -12,7 +12,7 @@ use Rattle.tap_base.specs.Lists.{Each}
 use Rattle.tap_base.specs.Interval.{IsIn, field_range}
 use Rattle.tap_base.specs.Option.{provided}
 use Rattle.tap_base.specs.Ranges.{AreIn}
-use Rattle.abstract_run.specs.Spelling.{all_digits, digits, padded, spelling}
+use Rattle.byte_meaning.specs.Spelling.{all_digits, digits, padded, spelling}
 use Rattle.byte_meaning.specs.Apart.{bit_length, byte_length}
 use Rattle.byte_meaning.specs.Reading.{bits_of, value_by, values_by, values_spelled}
 use Rattle.byte_meaning.specs.inner.Held.{is_held}

@@ -8,9 +8,9 @@ use Rattle.tap_base.specs.declared.memory.NoMemory.{NoMemory}
 use Rattle.tap_base.specs.declared.system.Action.{Action}
 use Rattle.tap_base.specs.declared.system.Process.{Process}
 use Rattle.tap_base.specs.declared.system.System.{System}
-use Rattle.abstract_run.specs.declared.state.Cell.{Cell}
-use Rattle.abstract_run.specs.Messages.{Receives}
-use Rattle.abstract_run.specs.Semantics.{ActionSemantics, action_semantics, guard_semantics, messages_of, process_semantics, semantics_of}
+use Rattle.byte_meaning.specs.declared.cell.Cell.{Cell}
+use Rattle.byte_meaning.specs.Messages.{Receives}
+use Rattle.tap_exec.specs.Semantics.{ActionSemantics, action_semantics, guard_semantics, messages_of, process_semantics, semantics_of}
 use Rattle.byte_meaning.specs.Meaning.{Means}
 use Rattle.byte_meaning.specs.Reading.{heard, heard_by, heard_in, meaning, meaning_among}
 use Rattle.byte_meaning.proofs.Meant.{meaning_is_meant}

@@ -5,6 +5,7 @@ pub mod Heard
 pub mod Held
 pub mod InSystem
 pub mod Meant
+pub mod Packs
 pub mod Patterns
 pub mod Read
 pub mod Receivers

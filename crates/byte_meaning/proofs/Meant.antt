@@ -8,11 +8,11 @@ use Rattle.std.proofs.lemmas.Slice.Eq.{bytes_eq-Decides}
 use Rattle.tap_base.specs.declared.wire.WireField.{WireField}
 use Rattle.tap_base.specs.ListWords.{first}
 use Rattle.tap_base.specs.Option.{◌>>=◌, provided}
-use Rattle.abstract_run.specs.declared.state.Cell.{Cell}
-use Rattle.abstract_run.specs.declared.state.Cell.TheVariants as cell
-use Rattle.abstract_run.specs.Messages.{AreFields, Receives}
-use Rattle.abstract_run.specs.Semantics.{Semantics}
-use Rattle.abstract_run.specs.Spelling.{spelling}
+use Rattle.byte_meaning.specs.declared.cell.Cell.{Cell}
+use Rattle.byte_meaning.specs.declared.cell.Cell.TheVariants as cell
+use Rattle.byte_meaning.specs.Messages.{AreFields, Receives}
+use Rattle.tap_exec.specs.Semantics.{Semantics}
+use Rattle.byte_meaning.specs.Spelling.{spelling}
 use Rattle.byte_meaning.specs.Meaning.{Means, Spells}
 use Rattle.byte_meaning.specs.Reading.{as_list, bits_of, values_by, values_spelled, spelled_message, meaning_among, heard, meaning}
 use Rattle.byte_meaning.proofs.Elements.{no_element}

@@ -13,8 +13,8 @@ use Rattle.tap_base.specs.Option.{◌>>=◌}
 use Rattle.tap_base.specs.Receivers.{HasReceiver}
 use Rattle.tap_base.specs.Wires.{receive_by, received_by_process, wire_of}
 use Rattle.tap_base.proofs.OptionFacts.{bound, mapped}
-use Rattle.abstract_run.specs.Messages.{Receives}
-use Rattle.abstract_run.specs.Semantics.{ActionSemantics, ProcessSemantics, action_semantics, guard_semantics, messages_of, process_semantics, receive, semantics_of}
+use Rattle.byte_meaning.specs.Messages.{Receives}
+use Rattle.tap_exec.specs.Semantics.{ActionSemantics, ProcessSemantics, action_semantics, guard_semantics, messages_of, process_semantics, receive, semantics_of}
 use Rattle.byte_meaning.specs.Laws.{WiresSayTheSame, SystemsSayTheSame}
 use Rattle.byte_meaning.specs.Meaning.{HasReceive}
 use Rattle.byte_meaning.proofs.Elements.{flat_given, flat_giver, given, giver, itself, no_element, one_element}

@@ -10,8 +10,8 @@ use Rattle.std.proofs.Math.Nat.{pow-le-pow_right}
 use Rattle.tap_base.specs.declared.wire.WireField.{WireField}
 use Rattle.tap_base.specs.Interval.{IsIn, field_range}
 use Rattle.tap_base.specs.Ranges.{AreIn}
-use Rattle.abstract_run.specs.Messages.{AreFields}
-use Rattle.abstract_run.specs.Spelling.{all_digits, digits, grouped, padded, spelling}
+use Rattle.byte_meaning.specs.Messages.{AreFields}
+use Rattle.byte_meaning.specs.Spelling.{all_digits, digits, grouped, padded, spelling}
 use Rattle.byte_meaning.specs.Apart.{bit_length, byte_length}
 use Rattle.byte_meaning.specs.Reading.{bits_of, value_by, values_by}
 use Rattle.byte_meaning.proofs.Digits.{length_digits, number_of_digits, length_bits, below_bits, bits_of_grouped, grouped_bits, below_append, below_digits, below_zeros, below_drop, below_take}

@@ -2,7 +2,7 @@
 use Rattle.std.specs.Prelude.{◌≡◌, ◌≢◌, ◌⊎◌, ℕ, ◌+◌, ◌-◌, ◌/◌, ◌%◌, ◌<◌, ℤ, unsigned_abs, List, ◌++◌, flat_map, map, replicate, slice_get, Option, Some, None}
 use Rattle.std.specs.List.{sum_by}
 use Rattle.tap_base.specs.declared.wire.WireField.{WireField}
-use Rattle.abstract_run.specs.Spelling.{digits}
+use Rattle.byte_meaning.specs.Spelling.{digits}
 
 -- how many bits the fields take
 abbrev pub bit_length : List WireField → ℕ

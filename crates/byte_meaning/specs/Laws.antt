@@ -5,11 +5,11 @@ use Rattle.tap_base.specs.declared.wire.Wire.{Wire}
 use Rattle.tap_base.specs.declared.wire.WireField.{WireField}
 use Rattle.tap_base.specs.Receivers.{HasReceiver}
 use Rattle.tap_base.specs.Wires.{wire_of}
-use Rattle.abstract_run.specs.declared.state.Cell.{Cell}
-use Rattle.abstract_run.specs.declared.state.Cell.TheVariants as cell
-use Rattle.abstract_run.specs.Messages.{AreFields, Receives}
-use Rattle.abstract_run.specs.Semantics.{Semantics, messages_of, semantics_of}
-use Rattle.abstract_run.specs.Spelling.{spelling}
+use Rattle.byte_meaning.specs.declared.cell.Cell.{Cell}
+use Rattle.byte_meaning.specs.declared.cell.Cell.TheVariants as cell
+use Rattle.byte_meaning.specs.Messages.{AreFields, Receives}
+use Rattle.tap_exec.specs.Semantics.{Semantics, messages_of, semantics_of}
+use Rattle.byte_meaning.specs.Spelling.{spelling}
 use Rattle.byte_meaning.specs.Apart.{TellsApart}
 use Rattle.byte_meaning.specs.Meaning.{HasReceive, Means}
 use Rattle.byte_meaning.specs.Reading.{meaning}

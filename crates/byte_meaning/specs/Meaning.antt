@@ -3,10 +3,10 @@ use Rattle.std.specs.Prelude.{◌≡◌, ℕ, ℤ, List, slice_get, Some}
 use Rattle.std.specs.List.{Contains}
 use Rattle.tap_base.specs.declared.wire.Wire.{Wire}
 use Rattle.tap_base.specs.declared.wire.WireField.{WireField}
-use Rattle.abstract_run.specs.declared.state.Cell.{Cell}
-use Rattle.abstract_run.specs.declared.state.Cell.TheVariants as cell
-use Rattle.abstract_run.specs.Messages.{AreFields}
-use Rattle.abstract_run.specs.Spelling.{spelling}
+use Rattle.byte_meaning.specs.declared.cell.Cell.{Cell}
+use Rattle.byte_meaning.specs.declared.cell.Cell.TheVariants as cell
+use Rattle.byte_meaning.specs.Messages.{AreFields}
+use Rattle.byte_meaning.specs.Spelling.{spelling}
 
 -- The bytes are the spelling of the message numbered m with these values: one for each field, within its range.
 pub record Spells (messages : List (List WireField)) (m : ℕ) (values : List ℤ) (bytes : List ℕ) : Type 0 where

@@ -6,10 +6,10 @@ use Rattle.std.specs.Str.{bytes_eq}
 use Rattle.tap_base.specs.declared.wire.WireField.{WireField}
 use Rattle.tap_base.specs.ListWords.{first}
 use Rattle.tap_base.specs.Option.{◌>>=◌, provided}
-use Rattle.abstract_run.specs.declared.state.Cell.{Cell}
-use Rattle.abstract_run.specs.declared.state.Cell.TheVariants as cell
-use Rattle.abstract_run.specs.Semantics.{Semantics, ActionSemantics, ProcessSemantics, GuardSemantics, local, receive, timeout}
-use Rattle.abstract_run.specs.Spelling.{digits, spelling}
+use Rattle.byte_meaning.specs.declared.cell.Cell.{Cell}
+use Rattle.byte_meaning.specs.declared.cell.Cell.TheVariants as cell
+use Rattle.tap_exec.specs.Semantics.{Semantics, ActionSemantics, ProcessSemantics, GuardSemantics, local, receive, timeout}
+use Rattle.byte_meaning.specs.Spelling.{digits, spelling}
 
 -- ---- values
 

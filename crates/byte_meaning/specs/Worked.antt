@@ -1,10 +1,10 @@
 -- The meaning of bytes, and messages told apart, worked on small cases.
 use Rattle.std.specs.Prelude.{◌≡◌, ℕ, pos, List, [], ◌∷◌, map, Some, None}
 use Rattle.tap_base.specs.declared.wire.WireField.{WireField}
-use Rattle.abstract_run.specs.declared.state.Cell.{Cell}
-use Rattle.abstract_run.specs.declared.state.Cell.TheVariants as cell
-use Rattle.abstract_run.specs.Semantics.{ActionSemantics, Semantics, receive}
-use Rattle.abstract_run.specs.Spelling.{spelling}
+use Rattle.byte_meaning.specs.declared.cell.Cell.{Cell}
+use Rattle.byte_meaning.specs.declared.cell.Cell.TheVariants as cell
+use Rattle.tap_exec.specs.Semantics.{ActionSemantics, Semantics, receive}
+use Rattle.byte_meaning.specs.Spelling.{spelling}
 use Rattle.byte_meaning.specs.Apart.{Apart}
 use Rattle.byte_meaning.specs.Reading.{meaning}
 

@@ -3,13 +3,13 @@
 ghost use Rattle.std.specs.Prelude.{◌≡◌, IfOk, flat_map};
 ghost use Rattle.tap_base.specs.Lists.{Each};
 ghost use Rattle.tap_base.specs.Resolved.{IsMessage};
-ghost use Rattle.abstract_run.specs.Messages.{Receives};
-ghost use Rattle.abstract_run.specs.Semantics.{guard_semantics, messages_of, semantics_of};
+ghost use Rattle.byte_meaning.specs.Messages.{Receives};
+ghost use Rattle.tap_exec.specs.Semantics.{guard_semantics, messages_of, semantics_of};
 ghost use Rattle.byte_meaning.specs.Meaning.{Means};
 ghost use Rattle.byte_meaning.specs.Reading.{as_list, heard_by, meaning, meaning_among, spelled_message};
 
+use crate::cell::Cell;
 use crate::reading::values_spelled;
-use abstract_run::Cell;
 use std::alloc::Global;
 use tap_base::{Action, Guard, NoMemory, System, item};
 

@@ -3,8 +3,7 @@
 ghost use Rattle.std.specs.Prelude.{IfOk};
 ghost use Rattle.tap_base.specs.Resolved.{IsResolved};
 
-use abstract_run::Cell;
-use byte_meaning::meaning;
+use byte_meaning::{Cell, meaning};
 use std::alloc::Global;
 use std::process::Abort;
 use std::test::Fail;

@@ -10,7 +10,7 @@ use Rattle.tap_exec.specs.declared.running.Running.{Running}
 use Rattle.tap_exec.specs.Choosing.{action_chooses, process_chooses, system_chooses}
 use Rattle.tap_exec.specs.Left.{LeavesChoices}
 use Rattle.tap_exec.proofs.Lefts.{all_left, none_of}
-use Rattle.abstract_run.specs.Semantics.{ActionSemantics, ProcessSemantics, messages_of, semantics_of}
+use Rattle.tap_exec.specs.Semantics.{ActionSemantics, ProcessSemantics, messages_of, semantics_of}
 use Rattle.sound_bodies.specs.GoOn.{GoesOn}
 use Rattle.sound_bodies.proofs.Simple.{exact}
 use Rattle.sound_bodies.proofs.SoundSystem.{bodies_go, each_action}
@@ -55,7 +55,7 @@ pub checked_runs : CheckedRuns
 checked_runs system ok none =
     let sound = (checked_sound system ok).1 in
     record {
-      safe = record { begins = sound.begins; keeps = sound.keeps; computed = sound.computes };
+      safe = record { messages = ok.resolved.messages; begins = sound.begins; keeps = sound.keeps; computed = sound.computes };
       unchosen = checked_goes_on system ok none;
       narrow = each_weaker IsMessage _ system.messages (λ m h. each_weaker IsField _ m.fields (λ f k. k.1) h.1) ok.resolved.messages;
       counted = few_actions system 0 system.processes ok.resolved.processes;

@@ -4,7 +4,7 @@ use Rattle.tap_base.specs.declared.system.System.{System}
 use Rattle.tap_exec.specs.Choosing.{system_chooses}
 use Rattle.abstract_run.specs.Progress.{NeedsNoChoice}
 use Rattle.abstract_run.specs.Runnable.{IsRunnable}
-use Rattle.abstract_run.specs.Semantics.{semantics_of}
+use Rattle.tap_exec.specs.Semantics.{semantics_of}
 use Rattle.width_check.specs.IsChecked.{IsChecked}
 
 -- Its bodies come to their ends without a choice.

@@ -42,6 +42,7 @@ took system schedule settings store old new found p =
       labels = run.labels;
       last = run.last;
       run = run.run;
+      delays = run.delays;
       is = p.kind.is;
     } in
     record { text = text.0; text_is = text.1; lines = lines.0; lines_are = lines.1; bytes = p.bytes; trace = trace; took = p.told }

@@ -2,7 +2,7 @@
 use Rattle.std.specs.Prelude.{◌≡◌, ℕ, List, ◌++◌, Some}
 use Rattle.tap_base.specs.declared.system.Inputs.{Inputs}
 use Rattle.abstract_run.specs.Opening.{opening_state}
-use Rattle.abstract_run.specs.Semantics.{Semantics}
+use Rattle.tap_exec.specs.Semantics.{Semantics}
 use Rattle.abstract_run.specs.declared.label.Event.{Event}
 use Rattle.abstract_run.specs.declared.label.Label.{Label}
 use Rattle.abstract_run.specs.declared.state.State.{State}
@@ -14,8 +14,10 @@ use Rattle.link_trait.specs.Entries.{contents_of}
 use Rattle.link_trait.specs.MemorySink.{SinkValue}
 use Rattle.link_trait.specs.MemoryStore.{StoreValue}
 use Rattle.tapc_core.specs.Run.{Gives, IsRunFrom}
+use Rattle.timed_runs.specs.Delays.{IsTimeout, KeepsDelay}
 
--- The bytes are the trace of labels that answer the events of a schedule, in what a text and settings give.
+-- The bytes are the trace of labels that answer the events of a schedule, in what a text and settings give, and that keep
+-- each delay.
 pub record IsTraceOfRun (text schedule : List ℕ) (settings : List Assignment) (bytes : List ℕ) : Type 0 where
   pub semantics : Semantics
   pub inputs : Inputs
@@ -25,6 +27,7 @@ pub record IsTraceOfRun (text schedule : List ℕ) (settings : List Assignment) 
   pub labels : List Label
   pub last : State
   pub run : IsRunFrom semantics (opening_state semantics inputs) events labels last
+  pub delays : (p t k : ℕ) → IsTimeout semantics (opening_state semantics inputs) labels p t k → KeepsDelay semantics (opening_state semantics inputs) labels p t k
   pub is : IsTraceOf semantics (opening_state semantics inputs) labels bytes
 
 -- The store has both files, and the sink took the trace of their run behind what it had.

@@ -5,7 +5,7 @@ ghost use Rattle.core_tests.specs.InMemory.{TookTrace};
 ghost use Rattle.tap_settings.specs.SettingText.{Assignment};
 ghost use Rattle.tapc_core.specs.Words.{command_of, world};
 
-use link_trait::{MemorySink, MemoryStore};
+use link_trait::{ListClock, MemoryLink, MemorySink, MemoryStore};
 use std::alloc::Global;
 use std::process::Abort;
 use std::test::Fail;
@@ -69,7 +69,7 @@ pub fn answer(alloc: Global, case: &Case) -> Result<(Status, MemorySink), NoMemo
     store.fail(case.failing_call)?;
     let mut out = sink_of(alloc)?;
     out.fail(case.failing_put)?;
-    let status = ran(alloc, words.as_slice(), &mut store, &mut out);
+    let status = ran(alloc, words.as_slice(), &mut store, &mut out)?;
     Ok((status, out))
 }
 
@@ -89,21 +89,29 @@ pub fn sink_of(alloc: Global) -> Result<MemorySink, NoMemory> {
     Ok(out)
 }
 
-/// Runs words over a store and a sink in memory. It promises nothing, so that what is to be proved of a test stays
-/// short.
-pub fn ran(alloc: Global, words: &[Text], store: &mut MemoryStore, out: &mut MemorySink) -> Status {
-    run_in_memory(alloc, words, store, out)
+/// Runs words over a store and a sink in memory, with an empty link and a clock at 0. It promises nothing, so that what
+/// is to be proved of a test stays short.
+pub fn ran(
+    alloc: Global,
+    words: &[Text],
+    store: &mut MemoryStore,
+    out: &mut MemorySink,
+) -> Result<Status, NoMemory> {
+    let mut link = MemoryLink::new(alloc);
+    let mut clock = ListClock::new(alloc, &[])?;
+    Ok(run_in_memory(alloc, words, store, out, &mut link, &mut clock))
 }
 
-/// Runs words over a store and a sink in memory, where nothing is untold: what `run` promises of a trace holds with no
-/// premise.
+/// Runs words over the forms in memory, where nothing is untold: what `run` promises of a trace holds with no premise.
 fn run_in_memory(
     alloc: Global,
     words: &[Text],
     store: &mut MemoryStore,
     out: &mut MemorySink,
+    link: &mut MemoryLink,
+    clock: &mut ListClock,
 ) -> Status
     ensures done { (system schedule : List ℕ) (settings : List Assignment) → command_of words.now ≡ Some (world system schedule settings) → result ≡ Status.Done → TookTrace system schedule settings store.old out.old out.new }
 {
-    run(alloc, words, store, out)
+    run(alloc, words, store, out, link, clock)
 }

@@ -87,7 +87,7 @@ fn pieces_do_not_matter(rt: HostRuntime) -> Result<(), Fail> {
         store.add("s", COUNTER)?;
         store.add("t", b"turn a 0\nturn a 1\n")?;
         let mut out = sink_of(rt.alloc())?;
-        let status = ran(rt.alloc(), words.as_slice(), &mut store, &mut out);
+        let status = ran(rt.alloc(), words.as_slice(), &mut store, &mut out)?;
         assert_eq!(rt; status, Status::Done, "pieces of {piece}");
         assert_eq!(rt; out.written(), lines.as_bytes(), "pieces of {piece}");
     }

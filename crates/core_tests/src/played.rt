@@ -102,11 +102,11 @@ tick b 3\nidle b\nvar a k 1\nvar b seen 1\nend\n",
             Status::BadSchedule,
             b"bad line 1\n",
         ),
-        // A line that is none so far.
+        // A cut behind more than 1,000,000 sends.
         (
-            "no cut yet",
+            "cut too far",
             PING,
-            b"cut a 0\n",
+            b"cut a 1000001\n",
             Status::BadSchedule,
             b"bad line 1\n",
         ),

@@ -4,7 +4,7 @@ use Rattle.tap_base.proofs.ListFacts.{map_set}
 use Rattle.guard_scheduler.specs.Cursor.{Cursor}
 use Rattle.abstract_run.specs.declared.label.Label.TheVariants as label
 use Rattle.abstract_run.specs.declared.state.State.{State}
-use Rattle.abstract_run.specs.Semantics.{ProcessSemantics, Semantics}
+use Rattle.tap_exec.specs.Semantics.{ProcessSemantics, Semantics}
 use Rattle.exact_choice.specs.Choice.{AllChoose, AreCursorsOf, Chooses, ChoosesAct, opening_cursors}
 use Rattle.exact_choice.specs.Moments.{Moment}
 

@@ -6,7 +6,7 @@ use Rattle.guard_scheduler.specs.Cursor.{Cursor}
 use Rattle.abstract_run.specs.declared.label.Label.{Label}
 use Rattle.abstract_run.specs.declared.state.State.{State}
 use Rattle.abstract_run.specs.Run.{state_after}
-use Rattle.abstract_run.specs.Semantics.{Semantics}
+use Rattle.tap_exec.specs.Semantics.{Semantics}
 use Rattle.abstract_run.specs.Step.{After, step}
 use Rattle.exact_choice.specs.Choice.{AllChoose}
 use Rattle.exact_choice.specs.Moments.{Moment, moments}

@@ -7,7 +7,7 @@ use Rattle.abstract_run.specs.declared.label.Label.{Label}
 use Rattle.abstract_run.specs.declared.label.Label.TheVariants as label
 use Rattle.abstract_run.specs.declared.state.State.{State}
 use Rattle.abstract_run.specs.Enabled.{is_enabled}
-use Rattle.abstract_run.specs.Semantics.{Semantics}
+use Rattle.tap_exec.specs.Semantics.{Semantics}
 use Rattle.exact_choice.specs.Moments.{Moment, moments}
 
 -- There is a cursor for each process, and it goes round the actions of the process.

@@ -1,3 +1,5 @@
 pub mod Choice
 pub mod Moments
+pub mod Rejects
 pub mod Worked
+pub mod WorkedRejects

@@ -4,7 +4,7 @@ use Rattle.abstract_run.specs.declared.label.Label.{Label}
 use Rattle.abstract_run.specs.declared.label.Label.TheVariants as label
 use Rattle.abstract_run.specs.declared.state.State.{State}
 use Rattle.abstract_run.specs.Opening.{opening_state}
-use Rattle.abstract_run.specs.Semantics.{ActionSemantics, Semantics, local}
+use Rattle.tap_exec.specs.Semantics.{ActionSemantics, Semantics, local}
 use Rattle.exact_choice.specs.Choice.{ChoosesInTurn}
 
 -- it is always enabled, and does nothing

@@ -6,7 +6,7 @@ use Rattle.std.proofs.lemmas.List.{append-nil, append_assoc, drop_all}
 use Rattle.std.proofs.lemmas.Option.{slice_get_past}
 use Rattle.std.proofs.lemmas.Bool.{cases_lt}
 use Rattle.tap_base.specs.declared.wire.WireField.{WireField}
-use Rattle.abstract_run.specs.Spelling.{digits}
+use Rattle.byte_meaning.specs.Spelling.{digits}
 use Rattle.byte_meaning.specs.Apart.{bit_length, fixed_bits, pattern, DifferAt}
 
 -- one more digit of a number

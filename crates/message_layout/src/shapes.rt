@@ -3,7 +3,7 @@
 ghost use Rattle.std.specs.Prelude.{◌≡◌, ◌<◌, ◌≤◌, ◌++◌, ℕ, IfOk, None, OnOk, Some, map, replicate};
 ghost use Rattle.std.specs.Bool.{Decides};
 ghost use Rattle.tap_base.specs.Lists.{Each};
-ghost use Rattle.abstract_run.specs.Spelling.{digits};
+ghost use Rattle.byte_meaning.specs.Spelling.{digits};
 ghost use Rattle.byte_meaning.specs.Apart.{DifferAt, bit_length, fixed_bits, pattern};
 ghost use Rattle.message_layout.specs.Wires.{AreShort, IsField, most_bits};
 ghost use Rattle.message_layout.specs.inner.Rivals.{AreApart, shape_of};

@@ -1,6 +1,6 @@
-//! A call of the program over a store and a sink in memory, and what must come of it.
+//! A call of the program over the forms in memory, and what must come of it.
 
-use link_trait::{MemorySink, MemoryStore};
+use link_trait::{ListClock, MemoryLink, MemorySink, MemoryStore};
 use std::alloc::Global;
 use std::process::Abort;
 use std::test::Fail;
@@ -34,15 +34,27 @@ pub fn check(rt: &impl Abort, alloc: Global, case: &Case) -> Result<(), Fail> {
     Ok(())
 }
 
-/// The status that a case comes to, and the sink that it writes to.
+/// The status that a case comes to, and the sink that it writes to, with an empty link and a clock at 0.
 fn answer(alloc: Global, case: &Case) -> Result<(Status, MemorySink), NoMemory> {
+    let mut link = MemoryLink::new(alloc);
+    let mut clock = ListClock::new(alloc, &[])?;
+    answer_with(alloc, case, &mut link, &mut clock)
+}
+
+/// The status that a case comes to, and the sink that it writes to, with a link and a clock.
+pub fn answer_with(
+    alloc: Global,
+    case: &Case,
+    link: &mut MemoryLink,
+    clock: &mut ListClock,
+) -> Result<(Status, MemorySink), NoMemory> {
     let words = words_of(alloc, case.words)?;
     let mut store = MemoryStore::new(alloc, 4096);
     store.add("s", case.system)?;
     store.add("t", case.schedule)?;
     let mut out = MemorySink::new(alloc);
-    out.reserve(65_536)?;
-    let status = ran(alloc, words.as_slice(), &mut store, &mut out);
+    out.reserve(2_000_000)?;
+    let status = ran(alloc, words.as_slice(), &mut store, &mut out, link, clock);
     Ok((status, out))
 }
 
@@ -55,10 +67,16 @@ fn words_of(alloc: Global, words: &[&str]) -> Result<List<Text>, NoMemory> {
     Ok(all)
 }
 
-/// Runs words over a store and a sink in memory. It promises nothing, so that what is to be proved of a test stays
-/// short.
-fn ran(alloc: Global, words: &[Text], store: &mut MemoryStore, out: &mut MemorySink) -> Status {
-    run(alloc, words, store, out)
+/// Runs words over the forms in memory. It promises nothing, so that what is to be proved of a test stays short.
+fn ran(
+    alloc: Global,
+    words: &[Text],
+    store: &mut MemoryStore,
+    out: &mut MemorySink,
+    link: &mut MemoryLink,
+    clock: &mut ListClock,
+) -> Status {
+    run(alloc, words, store, out, link, clock)
 }
 
 /// A run that comes to its end: its name, the schedule, and the lines.

@@ -1,5 +1,5 @@
 //! Tests of whole protocols over a store and a sink in memory: their messages in bytes, timers and readings of clocks, the
-//! order of actions, and what is accepted at the borders. Each row was worked by hand.
+//! order of actions, faults, cuts and rejects, and what is accepted at the borders. Each row was worked by hand.
 #![tactic(auto)]
 
 #[cfg(test)]
@@ -11,8 +11,16 @@ mod cases;
 #[cfg(test)]
 mod clocks;
 #[cfg(test)]
+mod cuts;
+#[cfg(test)]
 mod cyclic;
+#[cfg(test)]
+mod faults;
+#[cfg(test)]
+mod full;
 #[cfg(test)]
 mod resent;
 #[cfg(test)]
 mod timers;
+#[cfg(test)]
+mod untouched;

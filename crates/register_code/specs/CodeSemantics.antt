@@ -2,7 +2,7 @@
 use Rattle.std.specs.Prelude.{ℕ, map}
 use Rattle.std.specs.Option.{option_map}
 use Rattle.tap_exec.specs.declared.running.Running.{Running}
-use Rattle.abstract_run.specs.Semantics.{ActionSemantics, GuardSemantics, InputSemantics, ProcessSemantics, Semantics, local, receive, timeout}
+use Rattle.tap_exec.specs.Semantics.{ActionSemantics, GuardSemantics, InputSemantics, ProcessSemantics, Semantics, local, receive, timeout}
 use Rattle.tap_base.specs.Interval.{from_to}
 use Rattle.register_code.specs.declared.code.Code.{Code}
 use Rattle.register_code.specs.declared.code.CodeAction.{CodeAction}

@@ -1,10 +1,16 @@
+pub mod Back
+pub mod Cuts
 pub mod Decimals
 pub mod FewLines
+pub mod Hexes
 pub mod LineLabels
 pub mod LineWords
+pub mod Lines
+pub mod NamesAt
+pub mod Numbers
 pub mod OneTrace
 pub mod Options
+pub mod Refusals
 pub mod RunLines
 pub mod ScheduleBoth
-pub mod ScheduleLines
 pub mod Zipped

@@ -18,22 +18,22 @@ use Rattle.abstract_run.specs.declared.label.Label.TheVariants as label
 use Rattle.run_text.specs.OneTrace.{OneLine}
 use Rattle.run_text.specs.ScheduleText.{Lacks}
 use Rattle.run_text.specs.Sized.{AreBytes, IsSized}
-use Rattle.run_text.specs.TraceText.{hex_digits, hex_word, label_line, name_at, spaced}
+use Rattle.run_text.specs.TraceText.{hex_digits, hex_word, label_line, line_of, name_at}
 use Rattle.run_text.proofs.LineWords.{behind, spaced_same}
 
 -- ---- numbers
 
-abbrev number : List ℕ → ℕ
+abbrev pub number : List ℕ → ℕ
 number ds = digits_value 10 ds
 
-counted : (n : ℕ) → n < 2 ^ 64 → number (decimal n) ≡ n
+pub counted : (n : ℕ) → n < 2 ^ 64 → number (decimal n) ≡ n
 counted n h = (decimal_is_IsNumeral n h).1
 
 abbrev minus : ℕ → ℤ
 minus zero = pos 0
 minus (suc n) = negsuc n
 
-abbrev integer : List ℕ → ℤ
+abbrev pub integer : List ℕ → ℤ
 integer [] = pos 0
 integer (x ∷ xs) = if x == 45 then minus (number xs) else pos (number (x ∷ xs))
 
@@ -71,7 +71,7 @@ glyph_back d h = (glyph_when d (nat_lt d 10) refl h).0
 glyph_high : (d : ℕ) → d < 16 → 48 ≤ digit_glyph false d
 glyph_high d h = (glyph_when d (nat_lt d 10) refl h).1
 
-abbrev unhex : List ℕ → List ℕ
+abbrev pub unhex : List ℕ → List ℕ
 unhex (a ∷ b ∷ gs) = (16 * glyph_value a + glyph_value b) ∷ unhex gs
 unhex gs = []
 
@@ -85,7 +85,7 @@ digits_back : (bytes : List ℕ) → AreBytes bytes → unhex (flat_map hex_digi
 digits_back [] h = refl
 digits_back (b ∷ bs) h = let here = byte_back b h.0 in let rest = digits_back bs h.1 in rw (here, rest) refl
 
-hex_back : (bytes : List ℕ) → AreBytes bytes → unhex (hex_word bytes) ≡ bytes
+pub hex_back : (bytes : List ℕ) → AreBytes bytes → unhex (hex_word bytes) ≡ bytes
 hex_back [] h = refl
 hex_back (b ∷ bs) h = digits_back (b ∷ bs) h
 
@@ -142,7 +142,7 @@ words_of names (label.Stop p receivers) = name_at names p ∷ map (name_at names
 words_of names (label.Down p) = name_at names p ∷ []
 words_of names label.Void = []
 
-line_is : (names : List (List ℕ)) (l : Label) → label_line names l ≡ spaced (tag_of l) (words_of names l)
+line_is : (names : List (List ℕ)) (l : Label) → label_line names l ≡ line_of (tag_of l ∷ words_of names l)
 line_is names (label.Tick p c) = refl
 line_is names (label.Reject q p i) = refl
 line_is names (label.Act p a choices) = refl
@@ -223,15 +223,15 @@ found_from (n ∷ ns) i (suc p) h k =
 pub found : (names : List (List ℕ)) (p : ℕ) → AreDistinct names → p < length names → place names (name_at names p) ≡ p
 found names p h k = found_from names 0 p h k ∙ omega arith
 
-all_found : (names : List (List ℕ)) (ps : List ℕ) → AreDistinct names → Each (λ p. p < length names) ps → map (place names) (map (name_at names) ps) ≡ ps
+pub all_found : (names : List (List ℕ)) (ps : List ℕ) → AreDistinct names → Each (λ p. p < length names) ps → map (place names) (map (name_at names) ps) ≡ ps
 all_found names [] h k = refl
 all_found names (p ∷ ps) h k = let here = found names p h k.0 in let rest = all_found names ps h k.1 in rw (here, rest) refl
 
-all_valued : (zs : List ℤ) → Each (FitsSigned w64) zs → map integer (map signed_decimal zs) ≡ zs
+pub all_valued : (zs : List ℤ) → Each (FitsSigned w64) zs → map integer (map signed_decimal zs) ≡ zs
 all_valued [] h = refl
 all_valued (z ∷ zs) h = let here = valued z h.0 in let rest = all_valued zs h.1 in rw (here, rest) refl
 
-short : (n : ℕ) → n < 2 ^ 32 → number (decimal n) ≡ n
+pub short : (n : ℕ) → n < 2 ^ 32 → number (decimal n) ≡ n
 short n h = counted n (omega (arith, h))
 
 -- ---- the label is found again
@@ -280,14 +280,14 @@ digits_word (x ∷ xs) h = let r = digit_from_value x h.0 in ((λ e. omega (arit
 pub decimal_word : (n : ℕ) → n < 2 ^ 64 → IsWord (decimal n)
 decimal_word n h = digits_word (decimal n) (decimal_is_IsNumeral n h).0.1
 
-short_word : (n : ℕ) → n < 2 ^ 32 → IsWord (decimal n)
+pub short_word : (n : ℕ) → n < 2 ^ 32 → IsWord (decimal n)
 short_word n h = decimal_word n (omega (arith, h))
 
 signed_word : (z : ℤ) → FitsSigned w64 z → IsWord (signed_decimal z)
 signed_word (pos n) h = decimal_word n (omega (arith, h))
 signed_word (negsuc n) h = ((λ e. omega (arith, e), λ e. omega (arith, e)), decimal_word (suc n) (omega (arith, h)))
 
-signed_words : (zs : List ℤ) → Each (FitsSigned w64) zs → Each IsWord (map signed_decimal zs)
+pub signed_words : (zs : List ℤ) → Each (FitsSigned w64) zs → Each IsWord (map signed_decimal zs)
 signed_words [] h = tt
 signed_words (z ∷ zs) h = (signed_word z h.0, signed_words zs h.1)
 
@@ -298,7 +298,7 @@ hex_digits_word : (bytes : List ℕ) → AreBytes bytes → IsWord (flat_map hex
 hex_digits_word [] h = tt
 hex_digits_word (b ∷ bs) h = (high_word _ (glyph_high (b / 16) (omega (arith, h.0))), (high_word _ (glyph_high (b % 16) (omega arith)), hex_digits_word bs h.1))
 
-hex_is_word : (bytes : List ℕ) → AreBytes bytes → IsWord (hex_word bytes)
+pub hex_is_word : (bytes : List ℕ) → AreBytes bytes → IsWord (hex_word bytes)
 hex_is_word [] h = free_word (codes "-") refl
 hex_is_word (b ∷ bs) h = hex_digits_word (b ∷ bs) h
 
@@ -307,7 +307,7 @@ name_word [] p h k = absurd (omega (arith, k))
 name_word (n ∷ ns) zero h k = h.0
 name_word (n ∷ ns) (suc p) h k = name_word ns p h.1 (omega (arith, k))
 
-name_words : (names : List (List ℕ)) (ps : List ℕ) → Each IsWord names → Each (λ p. p < length names) ps → Each IsWord (map (name_at names) ps)
+pub name_words : (names : List (List ℕ)) (ps : List ℕ) → Each IsWord names → Each (λ p. p < length names) ps → Each IsWord (map (name_at names) ps)
 name_words names [] h k = tt
 name_words names (p ∷ ps) h k = (name_word names p h k.0, name_words names ps h k.1)
 

@@ -10,7 +10,7 @@ use Rattle.tap_base.specs.Option.{each}
 use Rattle.abstract_run.specs.declared.label.Label.{Label}
 use Rattle.abstract_run.specs.declared.label.Label.TheVariants as label
 use Rattle.abstract_run.specs.declared.state.State.{State}
-use Rattle.abstract_run.specs.Semantics.{Semantics}
+use Rattle.tap_exec.specs.Semantics.{Semantics}
 use Rattle.abstract_run.specs.Step.{step}
 use Rattle.run_text.specs.declared.names.VarName.{VarName}
 use Rattle.run_text.specs.Names.{AreNames}

@@ -7,7 +7,7 @@ use Rattle.tap_base.specs.Option.{each}
 use Rattle.abstract_run.specs.declared.label.Label.{Label}
 use Rattle.abstract_run.specs.declared.state.State.{State}
 use Rattle.abstract_run.specs.Run.{state_after}
-use Rattle.abstract_run.specs.Semantics.{Semantics}
+use Rattle.tap_exec.specs.Semantics.{Semantics}
 use Rattle.abstract_run.specs.Step.{After, step}
 use Rattle.run_text.specs.TraceText.{Datagram, datagram, label_line, last_lines, lines_with, names_in, run_lines, sent_line, trace_lines, went_out, with_sents}
 use Rattle.run_text.proofs.Options.{bound, mapped, some_same, unwrapped}

@@ -8,25 +8,31 @@ use Rattle.abstract_run.specs.declared.label.Event.{Event}
 use Rattle.abstract_run.specs.declared.label.Event.TheVariants as event
 use Rattle.abstract_run.specs.declared.label.Label.TheVariants as label
 use Rattle.run_text.specs.Names.{AreNames}
-use Rattle.run_text.specs.ScheduleText.{BeginsBadly, GoesOnAfter, IsFirstLine, IsListed, Lacks, NeverBoth, event_line, events_text, most_events}
-use Rattle.run_text.specs.TraceText.{name_at}
+use Rattle.run_text.specs.Reads.{NothingIs}
+use Rattle.run_text.specs.ScheduleText.{BeginsBadly, GoesOnAfter, HasLine, IsFirstLine, IsLineOf, IsOfNoEvent, Lacks, NeverBoth, event_line, events_text, most_events}
+use Rattle.run_text.specs.TraceText.{line_of, name_at}
 use Rattle.run_text.proofs.LineLabels.{decimal_word, free_word, joined_unbroken, line_unbroken, name_word, unbroken}
+use Rattle.run_text.proofs.Lines.{one_event_line}
 use Rattle.run_text.proofs.LineWords.{behind, lines_split}
 
 -- ---- lines of events
 
-event_unbroken : (names : List (List ℕ)) (e : Event) → AreNames names → IsListed (length names) e → Lacks 10 (event_line names e)
-event_unbroken names (event.Turn p c) named h =
+-- the words of a line have no line feed, so the line has none
+words_unbroken : (w : List ℕ) (ws : List (List ℕ)) → IsWord w → Each IsWord ws → Lacks 10 (line_of (w ∷ ws))
+words_unbroken w ws h k = each_append (λ b. b ≢ 10) w (behind 32 ws) (unbroken w h) (joined_unbroken ws k)
+
+has_unbroken : (names : List (List ℕ)) (e : Event) → AreNames names → HasLine (length names) e → Lacks 10 (event_line names e)
+has_unbroken names (event.Turn p c) named h =
     let words = name_at names p ∷ decimal c ∷ [] in
     let free : Each IsWord words = (name_word names p named.0 h.0, (decimal_word c h.1, tt)) in
-    each_append (λ b. b ≢ 10) (codes "turn") (behind 32 words) (unbroken (codes "turn") (free_word (codes "turn") refl)) (joined_unbroken words free)
-event_unbroken names (event.Arrive q p) named h = line_unbroken names (label.Arrive q p) named.0 (h.0, h.1)
-event_unbroken names (event.Lose q p i) named h = line_unbroken names (label.Lose q p i) named.0 (h.0.0, h.0.1, h.1)
-event_unbroken names (event.Copy q p i) named h = absurd h
-event_unbroken names (event.Move q p i j) named h = absurd h
-event_unbroken names (event.Damage q p i bytes) named h = absurd h
-event_unbroken names (event.Forge q p bytes) named h = absurd h
-event_unbroken names (event.Cut p n) named h = absurd h
+    words_unbroken (codes "turn") words (free_word (codes "turn") refl) free
+has_unbroken names (event.Arrive q p) named h = line_unbroken names (label.Arrive q p) named.0 (h.0, h.1)
+has_unbroken names (event.Lose q p i) named h = line_unbroken names (label.Lose q p i) named.0 (h.0.0, h.0.1, h.1)
+has_unbroken names (event.Copy q p i) named h = line_unbroken names (label.Copy q p i) named.0 (h.0.0, h.0.1, h.1)
+has_unbroken names (event.Move q p i j) named h = line_unbroken names (label.Move q p i j) named.0 (h.0.0, h.0.1, h.1, h.2)
+has_unbroken names (event.Damage q p i bytes) named h = line_unbroken names (label.Damage q p i bytes) named.0 (h.0.0, h.0.1, h.1, h.2)
+has_unbroken names (event.Forge q p bytes) named h = line_unbroken names (label.Forge q p bytes) named.0 (h.0.0, h.0.1, h.1)
+has_unbroken names (event.Cut p n) named h = line_unbroken names (label.Cut p n) named.0 (h.0, omega (arith, h.1))
 
 first_of : (names : List (List ℕ)) (e : Event) (es : List Event) (more : List ℕ) → events_text names (e ∷ es) ++ more ≡ event_line names e ++ 10 ∷ (events_text names es ++ more)
 first_of names e es more = ap (λ t. t ++ more) (append_assoc (event_line names e) (10 ∷ []) (events_text names es)) ∙ append_assoc (event_line names e) (10 ∷ events_text names es) more
@@ -42,16 +48,16 @@ not_empty (x ∷ w) r e = cc
 
 record Left (names : List (List ℕ)) (events first : List Event) (text : List ℕ) : Type 0 where
   left : List Event
-  listed : Each (IsListed (length names)) left
+  listed : Each (HasLine (length names)) left
   counted : length events ≡ length first + length left
   is : text ≡ events_text names left
 
-left : (names : List (List ℕ)) (first events : List Event) (text : List ℕ) → AreNames names → Each (IsListed (length names)) first → Each (IsListed (length names)) events
+left : (names : List (List ℕ)) (first events : List Event) (text : List ℕ) → AreNames names → Each (HasLine (length names)) first → Each (HasLine (length names)) events
     → events_text names first ++ text ≡ events_text names events → Left names events first text
 left names [] events text named h k same = record { left = events; listed = k; counted = omega arith; is = same }
 left names (f ∷ fs) [] text named h k same = absurd (not_empty (event_line names f) (events_text names fs ++ text) (sym same ∙ first_of names f fs text))
 left names (f ∷ fs) (e ∷ es) text named h k same =
-    let both = lines_split (event_line names f) (event_line names e) _ _ (event_unbroken names f named h.0) (event_unbroken names e named k.0) (sym (first_of names f fs text) ∙ same ∙ whole_of names e es) in
+    let both = lines_split (event_line names f) (event_line names e) _ _ (has_unbroken names f named h.0) (has_unbroken names e named k.0) (sym (first_of names f fs text) ∙ same ∙ whole_of names e es) in
     let rest = left names fs es text named h.1 k.1 both.1 in
     record { left = rest.left; listed = rest.listed; counted = omega (arith, rest.counted); is = rest.is }
 
@@ -72,24 +78,24 @@ broken (x ∷ w) r (y ∷ line) lacks e = broken w r line lacks.1 (tails e) wher
   tails e = cc
 
 -- the first line of a text that begins with the line of an event is that line
-first_line_is : (names : List (List ℕ)) (e : Event) (es : List Event) (rest line behind tail : List ℕ) → AreNames names → IsListed (length names) e → IsFirstLine rest line behind → Lacks 10 line → IsTail tail
+first_line_is : (names : List (List ℕ)) (e : Event) (es : List Event) (rest line behind tail : List ℕ) → AreNames names → HasLine (length names) e → IsFirstLine rest line behind → Lacks 10 line → IsTail tail
     → rest ++ tail ≡ events_text names (e ∷ es) → line ≡ event_line names e
 first_line_is names e es rest line behind tail named listed (inl h) lacks kind same =
-    (lines_split line (event_line names e) (behind ++ tail) (events_text names es) lacks (event_unbroken names e named listed)
+    (lines_split line (event_line names e) (behind ++ tail) (events_text names es) lacks (has_unbroken names e named listed)
     (sym (append_assoc line (10 ∷ behind) tail) ∙ ap (λ t. t ++ tail) (sym h) ∙ same ∙ whole_of names e es)).0
 first_line_is names e es rest line behind tail named listed (inr h) lacks none same =
     absurd (broken (event_line names e) (events_text names es) line lacks (sym h.0 ∙ sym (append-nil rest) ∙ same ∙ whole_of names e es))
 first_line_is names e es rest line behind tail named listed (inr h) lacks feed same =
-    (lines_split line (event_line names e) [] (events_text names es) lacks (event_unbroken names e named listed) (ap (λ t. t ++ 10 ∷ []) (sym h.0) ∙ same ∙ whole_of names e es)).0
+    (lines_split line (event_line names e) [] (events_text names es) lacks (has_unbroken names e named listed) (ap (λ t. t ++ 10 ∷ []) (sym h.0) ∙ same ∙ whole_of names e es)).0
 
 -- ---- never both
 
-clash : (names : List (List ℕ)) (text : List ℕ) (events others : List Event) (tail : List ℕ) → AreNames names → IsTail tail → Each (IsListed (length names)) events → length events ≤ most_events
+clash : (names : List (List ℕ)) (text : List ℕ) (events others : List Event) (tail : List ℕ) → AreNames names → IsTail tail → Each (HasLine (length names)) events → length events ≤ most_events
     → text ++ tail ≡ events_text names events → GoesOnAfter names text others → ⊥
 clash names text events others tail named kind listed few same bad =
     let l = left names others events (bad.rest ++ tail) named bad.listed.each listed (sym (append_assoc (events_text names others) bad.rest tail) ∙ ap (λ t. t ++ tail) (sym bad.split) ∙ same) in
     by l.left l.listed l.counted l.is bad.bad where
-      by : (left : List Event) → Each (IsListed (length names)) left → length events ≡ length others + length left → bad.rest ++ tail ≡ events_text names left
+      by : (left : List Event) → Each (HasLine (length names)) left → length events ≡ length others + length left → bad.rest ++ tail ≡ events_text names left
           → (length others ≡ most_events) ⊎ BeginsBadly names bad.rest → ⊥
       by [] h counted is end = bad.more (empty_front bad.rest tail is)
       by (e ∷ es) h counted is (inl full) = omega (arith, counted, full, few)

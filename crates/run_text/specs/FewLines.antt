@@ -6,7 +6,7 @@ use Rattle.abstract_run.specs.declared.state.State.{State}
 use Rattle.abstract_run.specs.Answers.{Answers}
 use Rattle.abstract_run.specs.Fits.{Fits}
 use Rattle.abstract_run.specs.Safe.{BeginsInRange, BodiesKeepRanges}
-use Rattle.abstract_run.specs.Semantics.{Semantics}
+use Rattle.tap_exec.specs.Semantics.{Semantics}
 use Rattle.run_text.specs.OneTrace.{most_lines}
 use Rattle.run_text.specs.ScheduleText.{most_events}
 use Rattle.run_text.specs.TraceText.{run_lines, trace_lines}

@@ -1,6 +1,9 @@
+pub mod BothWays
 pub mod FewLines
 pub mod Names
 pub mod OneTrace
+pub mod Operands
+pub mod Reads
 pub mod ScheduleText
 pub mod Sized
 pub mod TraceText

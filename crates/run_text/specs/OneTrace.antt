@@ -3,7 +3,7 @@ use Rattle.std.specs.Prelude.{◌≡◌, ℕ, ◌≤◌, length, List, Some}
 use Rattle.tap_base.specs.Lists.{Each}
 use Rattle.abstract_run.specs.declared.label.Label.{Label}
 use Rattle.abstract_run.specs.declared.state.State.{State}
-use Rattle.abstract_run.specs.Semantics.{Semantics}
+use Rattle.tap_exec.specs.Semantics.{Semantics}
 use Rattle.run_text.specs.Names.{AreNames}
 use Rattle.run_text.specs.Sized.{IsSized}
 use Rattle.run_text.specs.TraceText.{label_line, lines_text, names_in, trace_lines}

@@ -5,42 +5,61 @@ use Rattle.tap_base.specs.Lists.{Each}
 use Rattle.abstract_run.specs.declared.label.Event.{Event}
 use Rattle.abstract_run.specs.declared.label.Event.TheVariants as event
 use Rattle.run_text.specs.Names.{AreNames}
-use Rattle.run_text.specs.TraceText.{spaced, lines_text, name_at}
-
--- two different ones of so many processes
-abbrev pub AreTwo : ℕ → ℕ → ℕ → Type 0
-AreTwo processes q p = (q < processes) × (p < processes) × (q ≢ p)
-
--- the events that a line can name so far: a turn of one of so many processes, with a reading of 64 bits; an arrival from
--- one of them at another; and the loss of a datagram between two of them, by its place of 32 bits
-abbrev pub IsListed : ℕ → Event → Type 0
-IsListed processes (event.Turn p c) = (p < processes) × (c < 2 ^ 64)
-IsListed processes (event.Arrive q p) = AreTwo processes q p
-IsListed processes (event.Lose q p i) = AreTwo processes q p × (i < 2 ^ 32)
-IsListed processes _ = ⊥
-
--- the line of an event, without its line feed; what has no line yet has no bytes
-abbrev pub event_line : List (List ℕ) → Event → List ℕ
-event_line names (event.Turn p c) = spaced (codes "turn") (name_at names p ∷ decimal c ∷ [])
-event_line names (event.Arrive q p) = spaced (codes "arrive") (name_at names q ∷ name_at names p ∷ [])
-event_line names (event.Lose q p i) = spaced (codes "lose") (name_at names q ∷ name_at names p ∷ decimal i ∷ [])
-event_line names _ = []
-
--- The line is that of the event.
-abbrev pub SpellsEvent : List (List ℕ) → List ℕ → Event → Type 0
-SpellsEvent names line e = IsListed (length names) e × (line ≡ event_line names e)
-
--- the text of events, each line with its line feed
-abbrev pub events_text : List (List ℕ) → List Event → List ℕ
-events_text names events = lines_text (map (event_line names) events)
+use Rattle.run_text.specs.Sized.{AreDatagram, IsShortNumber}
+use Rattle.run_text.specs.TraceText.{hex_word, line_of, lines_text, name_at}
 
 -- how many events a schedule has at most
 abbrev pub most_events : ℕ
 most_events = 1000000
 
+-- two different ones of so many processes
+abbrev pub AreTwo : ℕ → ℕ → ℕ → Type 0
+AreTwo processes q p = (q < processes) × (p < processes) × (q ≢ p)
+
+-- the events of so many processes that have a line: a reading has 64 bits, a place 32, and a cut comes after at most
+-- 1,000,000 sends
+abbrev pub HasLine : ℕ → Event → Type 0
+HasLine processes (event.Turn p c) = (p < processes) × (c < 2 ^ 64)
+HasLine processes (event.Arrive q p) = AreTwo processes q p
+HasLine processes (event.Lose q p i) = AreTwo processes q p × IsShortNumber i
+HasLine processes (event.Copy q p i) = AreTwo processes q p × IsShortNumber i
+HasLine processes (event.Move q p i j) = AreTwo processes q p × IsShortNumber i × IsShortNumber j
+HasLine processes (event.Damage q p i bytes) = AreTwo processes q p × IsShortNumber i × AreDatagram bytes
+HasLine processes (event.Forge q p bytes) = AreTwo processes q p × AreDatagram bytes
+HasLine processes (event.Cut p n) = (p < processes) × (n ≤ most_events)
+
+-- the words of the line of an event
+abbrev pub event_words : List (List ℕ) → Event → List (List ℕ)
+event_words names (event.Turn p c) = codes "turn" ∷ name_at names p ∷ decimal c ∷ []
+event_words names (event.Arrive q p) = codes "arrive" ∷ name_at names q ∷ name_at names p ∷ []
+event_words names (event.Lose q p i) = codes "lose" ∷ name_at names q ∷ name_at names p ∷ decimal i ∷ []
+event_words names (event.Copy q p i) = codes "copy" ∷ name_at names q ∷ name_at names p ∷ decimal i ∷ []
+event_words names (event.Move q p i j) = codes "move" ∷ name_at names q ∷ name_at names p ∷ decimal i ∷ decimal j ∷ []
+event_words names (event.Damage q p i bytes) = codes "damage" ∷ name_at names q ∷ name_at names p ∷ decimal i ∷ hex_word bytes ∷ []
+event_words names (event.Forge q p bytes) = codes "forge" ∷ name_at names q ∷ name_at names p ∷ hex_word bytes ∷ []
+event_words names (event.Cut p n) = codes "cut" ∷ name_at names p ∷ decimal n ∷ []
+
+-- the line of an event, without its line feed
+abbrev pub event_line : List (List ℕ) → Event → List ℕ
+event_line names e = line_of (event_words names e)
+
+-- The event has a line, and it is this one.
+abbrev pub IsLineOf : List (List ℕ) → List ℕ → Event → Type 0
+IsLineOf names line e = HasLine (length names) e × (line ≡ event_line names e)
+
+-- The event has a line, of these words.
+abbrev pub AreWordsOf : List (List ℕ) → List (List ℕ) → Event → Type 0
+AreWordsOf names words e = HasLine (length names) e × (words ≡ event_words names e)
+
+-- ---- schedules
+
+-- the text of events, each line with its line feed
+abbrev pub events_text : List (List ℕ) → List Event → List ℕ
+events_text names events = lines_text (map (event_line names) events)
+
 -- Events that a schedule of so many processes can have.
 pub record AreListed (processes : ℕ) (events : List Event) : Type 0 where
-  pub each : Each (IsListed processes) events
+  pub each : Each (HasLine processes) events
   pub few : length events ≤ most_events
 
 -- The text is the lines of the events. The line feed of the last line may be wanting.
@@ -56,7 +75,7 @@ pub record BeginsSchedule (names : List (List ℕ)) (text : List ℕ) (events : 
 
 -- The line is that of no event.
 abbrev pub IsOfNoEvent : List (List ℕ) → List ℕ → Type 0
-IsOfNoEvent names line = (e : Event) → SpellsEvent names line e → ⊥
+IsOfNoEvent names line = (e : Event) → IsLineOf names line e → ⊥
 
 -- no byte is this one
 abbrev pub Lacks : ℕ → List ℕ → Type 0
@@ -81,6 +100,18 @@ pub record GoesOnAfter (names : List (List ℕ)) (text : List ℕ) (events : Lis
   pub split : text ≡ events_text names events ++ rest
   pub more : rest ≢ []
   pub bad : (length events ≡ most_events) ⊎ BeginsBadly names rest
+
+-- The text has a line behind those of the events, and it is that of one more event.
+pub record MeetsEvent (names : List (List ℕ)) (text : List ℕ) (events : List Event) : Type 0 where
+  pub rest : List ℕ
+  pub listed : AreListed (length names) events
+  pub split : text ≡ events_text names events ++ rest
+  pub line : List ℕ
+  pub behind : List ℕ
+  pub first : IsFirstLine rest line behind
+  pub event : Event
+  pub next : IsLineOf names line event
+  pub one_more : length events < most_events
 
 -- A schedule has a bad line, or is one of events: it is never both.
 abbrev pub NeverBoth : Type 0

@@ -11,16 +11,17 @@ use Rattle.abstract_run.specs.declared.label.Label.TheVariants as label
 use Rattle.abstract_run.specs.declared.state.Falling.{Falling}
 use Rattle.abstract_run.specs.declared.state.State.{State}
 use Rattle.abstract_run.specs.Run.{state_after}
-use Rattle.abstract_run.specs.Semantics.{Semantics}
-use Rattle.abstract_run.specs.Spelling.{spelled}
+use Rattle.tap_exec.specs.Semantics.{Semantics}
+use Rattle.byte_meaning.specs.Spelling.{spelled}
 use Rattle.abstract_run.specs.Step.{After, step}
 use Rattle.run_text.specs.declared.names.VarName.{VarName}
 
 -- ---- words
 
--- words with single spaces between them: the first word, and the words behind it
-abbrev pub spaced : List ℕ → List (List ℕ) → List ℕ
-spaced first more = first ++ flat_map (λ w. 32 ∷ w) more
+-- the line of words, with a single space between each two
+abbrev pub line_of : List (List ℕ) → List ℕ
+line_of [] = []
+line_of (word ∷ more) = word ++ flat_map (λ w. 32 ∷ w) more
 
 -- the text of lines, each with its line feed
 abbrev pub lines_text : List (List ℕ) → List ℕ
@@ -54,23 +55,27 @@ name_at names p = unwrap_or (slice_get names p) []
 
 -- ---- labels
 
+-- the words of the line of a label
+abbrev pub label_words : List (List ℕ) → Label → List (List ℕ)
+label_words names (label.Tick p c) = codes "tick" ∷ name_at names p ∷ decimal c ∷ []
+label_words names (label.Reject q p i) = codes "reject" ∷ name_at names q ∷ name_at names p ∷ decimal i ∷ []
+label_words names (label.Act p a choices) = codes "act" ∷ name_at names p ∷ decimal a ∷ map signed_decimal choices
+label_words names (label.Idle p) = codes "idle" ∷ name_at names p ∷ []
+label_words names (label.Flood p) = codes "flood" ∷ name_at names p ∷ []
+label_words names (label.Arrive q p) = codes "arrive" ∷ name_at names q ∷ name_at names p ∷ []
+label_words names (label.Lose q p i) = codes "lose" ∷ name_at names q ∷ name_at names p ∷ decimal i ∷ []
+label_words names (label.Copy q p i) = codes "copy" ∷ name_at names q ∷ name_at names p ∷ decimal i ∷ []
+label_words names (label.Move q p i j) = codes "move" ∷ name_at names q ∷ name_at names p ∷ decimal i ∷ decimal j ∷ []
+label_words names (label.Damage q p i bytes) = codes "damage" ∷ name_at names q ∷ name_at names p ∷ decimal i ∷ hex_word bytes ∷ []
+label_words names (label.Forge q p bytes) = codes "forge" ∷ name_at names q ∷ name_at names p ∷ hex_word bytes ∷ []
+label_words names (label.Cut p n) = codes "cut" ∷ name_at names p ∷ decimal n ∷ []
+label_words names (label.Stop p receivers) = codes "stop" ∷ name_at names p ∷ map (name_at names) receivers
+label_words names (label.Down p) = codes "down" ∷ name_at names p ∷ []
+label_words names label.Void = codes "void" ∷ []
+
 -- the line of a label
 abbrev pub label_line : List (List ℕ) → Label → List ℕ
-label_line names (label.Tick p c) = spaced (codes "tick") (name_at names p ∷ decimal c ∷ [])
-label_line names (label.Reject q p i) = spaced (codes "reject") (name_at names q ∷ name_at names p ∷ decimal i ∷ [])
-label_line names (label.Act p a choices) = spaced (codes "act") (name_at names p ∷ decimal a ∷ map signed_decimal choices)
-label_line names (label.Idle p) = spaced (codes "idle") (name_at names p ∷ [])
-label_line names (label.Flood p) = spaced (codes "flood") (name_at names p ∷ [])
-label_line names (label.Arrive q p) = spaced (codes "arrive") (name_at names q ∷ name_at names p ∷ [])
-label_line names (label.Lose q p i) = spaced (codes "lose") (name_at names q ∷ name_at names p ∷ decimal i ∷ [])
-label_line names (label.Copy q p i) = spaced (codes "copy") (name_at names q ∷ name_at names p ∷ decimal i ∷ [])
-label_line names (label.Move q p i j) = spaced (codes "move") (name_at names q ∷ name_at names p ∷ decimal i ∷ decimal j ∷ [])
-label_line names (label.Damage q p i bytes) = spaced (codes "damage") (name_at names q ∷ name_at names p ∷ decimal i ∷ hex_word bytes ∷ [])
-label_line names (label.Forge q p bytes) = spaced (codes "forge") (name_at names q ∷ name_at names p ∷ hex_word bytes ∷ [])
-label_line names (label.Cut p n) = spaced (codes "cut") (name_at names p ∷ decimal n ∷ [])
-label_line names (label.Stop p receivers) = spaced (codes "stop") (name_at names p ∷ map (name_at names) receivers)
-label_line names (label.Down p) = spaced (codes "down") (name_at names p ∷ [])
-label_line names label.Void = codes "void"
+label_line names l = line_of (label_words names l)
 
 -- ---- datagrams
 
@@ -93,7 +98,7 @@ went_out after = take (length after.1 - length (taken_back after.0.falling)) aft
 
 -- the line of a datagram
 abbrev pub sent_line : List (List ℕ) → Datagram → List ℕ
-sent_line names d = spaced (codes "sent") (name_at names d.0 ∷ hex_word d.1 ∷ [])
+sent_line names d = line_of (codes "sent" ∷ name_at names d.0 ∷ hex_word d.1 ∷ [])
 
 -- ---- the labels of a run
 
@@ -118,7 +123,7 @@ run_lines semantics s labels = option_map (flat_map (lines_with (names_in semant
 
 -- the line of a variable of a process, with one value for each of its cells
 abbrev pub var_line : List ℕ → List ℕ → List ℤ → List ℕ
-var_line process name values = spaced (codes "var") (process ∷ name ∷ map signed_decimal values)
+var_line process name values = line_of (codes "var" ∷ process ∷ name ∷ map signed_decimal values)
 
 -- the lines of the variables of a process, which share out its cells in order of declaration
 abbrev pub vars_of : List ℕ → List VarName → List ℤ → List (List ℕ)

@@ -1,5 +1,6 @@
 //! What the definitions of traces and schedules promise by themselves.
 
+ghost use Rattle.run_text.specs.BothWays.{OneEvent, ReadIsWritten, WrittenIsRead};
 ghost use Rattle.run_text.specs.FewLines.{FewLines, FewLinesForEach};
 ghost use Rattle.run_text.specs.OneTrace.{OneLine, OneTrace};
 ghost use Rattle.run_text.specs.ScheduleText.{NeverBoth};
@@ -14,6 +15,21 @@ pub fn one_line()
 /// two runs from one state that differ in a step differ in their traces.
 pub fn one_trace()
     ensures { OneTrace }
+{}
+
+/// A line is that of at most one event.
+pub fn one_event()
+    ensures { OneEvent }
+{}
+
+/// What is written of an event is read as that event, unless memory is refused.
+pub fn written_is_read()
+    ensures { WrittenIsRead }
+{}
+
+/// What is read is written as it was.
+pub fn read_is_written()
+    ensures { ReadIsWritten }
 {}
 
 /// A schedule of events has no bad line.

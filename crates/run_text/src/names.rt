@@ -1,7 +1,7 @@
 //! The names that lines speak of.
 
 ghost use Rattle.std.specs.Prelude.{◌≡◌, ℕ, map, IfOk};
-ghost use Rattle.abstract_run.specs.Semantics.{semantics_of};
+ghost use Rattle.tap_exec.specs.Semantics.{semantics_of};
 ghost use Rattle.run_text.specs.TraceText.{name_at, names_in, var_name, vars_in};
 
 use std::alloc::Global;

@@ -17,8 +17,8 @@ use Rattle.tap_exec.specs.declared.running.TimerState.TheVariants as timer
 use Rattle.tap_exec.specs.Execution.{Doing, alternative, assigned, chosen, exec, exec_all, holds_in, rounds, sent, started, with_timer}
 use Rattle.tap_exec.proofs.StmtInduction.{of_stmt}
 use Rattle.tap_exec.proofs.StmtOpen as exec_
-use Rattle.abstract_run.specs.Messages.{Receives}
-use Rattle.abstract_run.specs.Semantics.{ProcessSemantics, Semantics}
+use Rattle.byte_meaning.specs.Messages.{Receives}
+use Rattle.tap_exec.specs.Semantics.{ProcessSemantics, Semantics}
 use Rattle.sound_values.specs.Fields.{FillsFields}
 use Rattle.tap_base.specs.Interval.{delay_range}
 use Rattle.tap_base.specs.Sends.{body_sends, branch_sends, stmt_sends}

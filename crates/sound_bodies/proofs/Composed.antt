@@ -7,9 +7,9 @@ use Rattle.tap_base.specs.Option.{◌>>=◌, provided}
 use Rattle.tap_base.proofs.ListFacts.{each_append}
 use Rattle.tap_exec.specs.declared.running.Running.{Running}
 use Rattle.tap_exec.specs.Execution.{Alternative, Doing, one_runs, do_all, open_from, takes, round, rounds}
-use Rattle.abstract_run.specs.Messages.{IsFitSend}
+use Rattle.byte_meaning.specs.Messages.{IsFitSend}
 use Rattle.abstract_run.specs.Safe.{IsFitRunning}
-use Rattle.abstract_run.specs.Semantics.{ProcessSemantics, Semantics}
+use Rattle.tap_exec.specs.Semantics.{ProcessSemantics, Semantics}
 use Rattle.sound_bodies.proofs.Runs.{Leads, Runs}
 
 sum_shift : (a : ℕ) (ns : List ℕ) → fold ◌+◌ a ns ≡ a + fold ◌+◌ 0 ns

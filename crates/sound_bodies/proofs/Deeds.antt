@@ -22,8 +22,8 @@ use Rattle.tap_base.specs.Resolved.{IsMet, IsResolvedExpr, IsResolvedTarget}
 use Rattle.tap_base.specs.Scope.{Scope, fields_of, free_fields, scope_of, value_range}
 use Rattle.tap_exec.specs.Filling.{wire_fields}
 use Rattle.tap_exec.specs.Value.{value_of}
-use Rattle.abstract_run.specs.Messages.{Receives}
-use Rattle.abstract_run.specs.Semantics.{ProcessSemantics, Semantics, action_semantics, guard_semantics, messages_of, process_semantics, semantics_of}
+use Rattle.byte_meaning.specs.Messages.{Receives}
+use Rattle.tap_exec.specs.Semantics.{ProcessSemantics, Semantics, action_semantics, guard_semantics, messages_of, process_semantics, semantics_of}
 use Rattle.sound_values.specs.Sound.{IsJudged}
 use Rattle.sound_values.proofs.FieldValues.{given_fit}
 use Rattle.sound_values.proofs.Values.{sound}

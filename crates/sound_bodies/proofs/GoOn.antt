@@ -8,7 +8,7 @@ use Rattle.tap_base.specs.Option.{◌>>=◌, provided}
 use Rattle.tap_exec.specs.declared.running.Running.{Running}
 use Rattle.tap_exec.specs.Execution.{Alternative, Doing, do_all, one_runs, open_from, round, rounds}
 use Rattle.abstract_run.specs.Safe.{IsFitRunning}
-use Rattle.abstract_run.specs.Semantics.{ProcessSemantics, Semantics}
+use Rattle.tap_exec.specs.Semantics.{ProcessSemantics, Semantics}
 use Rattle.sound_bodies.proofs.Runs.{Leads, Runs}
 
 -- the same, with these choices to come

@@ -26,7 +26,7 @@ use Rattle.tap_exec.specs.Value.{value_of}
 use Rattle.tap_exec.proofs.StmtInduction.{of_stmt}
 use Rattle.tap_exec.proofs.StmtOpen as exec_
 use Rattle.abstract_run.specs.Safe.{IsFitRunning}
-use Rattle.abstract_run.specs.Semantics.{ProcessSemantics, Semantics}
+use Rattle.tap_exec.specs.Semantics.{ProcessSemantics, Semantics}
 use Rattle.sound_bodies.specs.GoOn.{GoesOn}
 use Rattle.tap_base.specs.Sends.{stmt_sends}
 use Rattle.sound_bodies.proofs.Bodies.{DeedRuns, Sends, stmt_holds}
@@ -156,7 +156,7 @@ module _ (semantics : Semantics) (p : ℕ) (process : ProcessSemantics) (inputs 
             (all_can semantics p process (map by_value body) (all_stmts body h m.1) r fit);
       }
 
-  stmt_goes : (t : Stmt) → Goes t
+  pub stmt_goes : (t : Stmt) → Goes t
   stmt_goes = of_stmt Goes GoesOf skip_goes assign_goes choose_goes send_goes start_goes stop_goes selection_goes loop_goes branch_goes
 
   each_goes : (ts : List Stmt) → Each Goes ts

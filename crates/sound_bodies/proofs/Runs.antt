@@ -3,9 +3,9 @@ use Rattle.std.specs.Prelude.{◌≡◌, ◌≤◌, ◌++◌, ℕ, List, length,
 use Rattle.tap_base.specs.Lists.{Each}
 use Rattle.tap_exec.specs.declared.running.Outgoing.{Outgoing}
 use Rattle.tap_exec.specs.declared.running.Running.{Running}
-use Rattle.abstract_run.specs.Messages.{IsFitSend}
+use Rattle.byte_meaning.specs.Messages.{IsFitSend}
 use Rattle.abstract_run.specs.Safe.{IsFitRunning}
-use Rattle.abstract_run.specs.Semantics.{ProcessSemantics, Semantics}
+use Rattle.tap_exec.specs.Semantics.{ProcessSemantics, Semantics}
 
 -- from one to the other: cells and timers still fit, and at most so many fitting sends have come behind
 pub record Leads (semantics : Semantics) (p : ℕ) (process : ProcessSemantics) (n : ℕ) (before after : Running) : Type 0 where

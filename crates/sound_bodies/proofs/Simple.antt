@@ -22,9 +22,9 @@ use Rattle.tap_exec.specs.declared.running.TimerState.TheVariants as timer
 use Rattle.tap_exec.specs.Execution.{assigned, chosen, place_by, place_in, sent, started, takes, value_in, with_timer, writes}
 use Rattle.tap_exec.specs.Value.{value_of}
 use Rattle.abstract_run.specs.Fits.{IsFitTimer}
-use Rattle.abstract_run.specs.Messages.{Receives}
+use Rattle.byte_meaning.specs.Messages.{Receives}
 use Rattle.abstract_run.specs.Safe.{IsFitRunning}
-use Rattle.abstract_run.specs.Semantics.{ProcessSemantics, Semantics}
+use Rattle.tap_exec.specs.Semantics.{ProcessSemantics, Semantics}
 use Rattle.sound_values.specs.Fields.{FillsFields}
 use Rattle.sound_bodies.proofs.Runs.{Leads, Runs}
 

@@ -22,9 +22,9 @@ use Rattle.tap_exec.specs.declared.running.Running.{Running}
 use Rattle.tap_exec.specs.Computed.{computed}
 use Rattle.tap_exec.specs.Execution.{exec_all}
 use Rattle.abstract_run.specs.inner.ComputedSemantics.{computed_action, computed_guard, computed_process, computed_semantics}
-use Rattle.abstract_run.specs.Messages.{AreReceived}
+use Rattle.byte_meaning.specs.Messages.{AreReceived}
 use Rattle.abstract_run.specs.Safe.{Agrees, BeginsInRange, BodiesKeepRanges, IsBeginning, KeepsRange, SameAction, SameGuard, SameProcess, most_vars, tests, receives, timeouts}
-use Rattle.abstract_run.specs.Semantics.{ActionSemantics, InputSemantics, ProcessSemantics, action_semantics, guard_semantics, input_semantics, messages_of, process_semantics, semantics_of}
+use Rattle.tap_exec.specs.Semantics.{ActionSemantics, InputSemantics, ProcessSemantics, action_semantics, guard_semantics, input_semantics, messages_of, process_semantics, semantics_of}
 use Rattle.sound_values.proofs.FieldValues.{received_fit}
 use Rattle.sound_values.proofs.Values.{sound}
 use Rattle.sound_bodies.specs.Bodies.{BodiesAreSound}
@@ -62,7 +62,7 @@ begins system ok =
       initials = each_map Begun (λ (q : ProcessSemantics). Each (λ (v : Var). IsIn v.initial v.range) q.vars) says system.processes (λ p h. h.1) all;
     }
 
-ranges_ordered : (vars : List Var) → Each IsVar vars → Each IsOrdered (ranges_of vars)
+pub ranges_ordered : (vars : List Var) → Each IsVar vars → Each IsOrdered (ranges_of vars)
 ranges_ordered [] h = tt
 ranges_ordered (v ∷ vs) h = each_append IsOrdered (replicate v.cells v.range) (ranges_of vs) (each_replicate IsOrdered v.cells v.range h.0.1) (ranges_ordered vs h.1)
 
@@ -109,7 +109,7 @@ module _ (system : System) (ok : IsResolved system) (right : IsJudgedSystem syst
     listens : AreAllIn (scope_of system.messages process action.guard).fields received
     listens = heard system process action.guard received begin.heard
 
-    deeds : Each (DeedRuns (semantics_of system) p (process_semantics (messages_of system) process) exact inputs received) (all_deeds action.body)
+    pub deeds : Each (DeedRuns (semantics_of system) p (process_semantics (messages_of system) process) exact inputs received) (all_deeds action.body)
     deeds =
         all_run system p process action.guard exact inputs received given listens (λ e range h j cells fit. refl) (all_deeds action.body) resolved.body judged.body
 

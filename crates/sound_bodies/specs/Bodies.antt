@@ -2,7 +2,7 @@
 use Rattle.tap_base.specs.declared.system.System.{System}
 use Rattle.tap_base.specs.Resolved.{IsResolved}
 use Rattle.abstract_run.specs.Safe.{BeginsInRange, BodiesKeepRanges, IsComputed}
-use Rattle.abstract_run.specs.Semantics.{semantics_of}
+use Rattle.tap_exec.specs.Semantics.{semantics_of}
 use Rattle.sound_bodies.specs.Judged.{IsJudgedSystem}
 
 -- It begins within its ranges, its bodies keep them, and 64-bit numbers compute it.

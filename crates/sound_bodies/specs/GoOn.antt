@@ -4,7 +4,7 @@ use Rattle.tap_base.specs.declared.system.System.{System}
 use Rattle.tap_base.specs.Resolved.{IsResolved}
 use Rattle.tap_exec.specs.declared.running.Running.{Running}
 use Rattle.abstract_run.specs.Safe.{IsBeginning}
-use Rattle.abstract_run.specs.Semantics.{ActionSemantics, ProcessSemantics, semantics_of}
+use Rattle.tap_exec.specs.Semantics.{ActionSemantics, ProcessSemantics, semantics_of}
 use Rattle.sound_bodies.specs.Judged.{IsJudgedSystem}
 
 -- It comes to its end by some choices, and leaves whatever choices come behind them.

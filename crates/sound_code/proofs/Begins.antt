@@ -10,7 +10,7 @@ use Rattle.tap_base.specs.declared.system.Var.{Var}
 use Rattle.tap_base.specs.Interval.{IsIn}
 use Rattle.tap_base.specs.Lists.{Each}
 use Rattle.tap_base.proofs.ListFacts.{each_map}
-use Rattle.abstract_run.specs.Semantics.{ProcessSemantics}
+use Rattle.tap_exec.specs.Semantics.{ProcessSemantics}
 use Rattle.register_code.specs.declared.code.Code.{Code}
 use Rattle.register_code.specs.declared.code.CodeProcess.{CodeProcess}
 use Rattle.register_code.specs.declared.code.CodeVariable.{CodeVariable}

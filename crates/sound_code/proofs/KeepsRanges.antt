@@ -8,9 +8,9 @@ use Rattle.tap_base.specs.Interval.{from_to}
 use Rattle.tap_base.specs.Ranges.{AreAllIn}
 use Rattle.tap_base.proofs.OptionFacts.{mapped}
 use Rattle.tap_exec.specs.declared.running.Running.{Running}
-use Rattle.abstract_run.specs.Messages.{AreFields, AreReceived}
+use Rattle.byte_meaning.specs.Messages.{AreFields, AreReceived}
 use Rattle.abstract_run.specs.Safe.{IsBeginning, IsFitRunning, KeepsRange}
-use Rattle.abstract_run.specs.Semantics.{ActionSemantics, ProcessSemantics}
+use Rattle.tap_exec.specs.Semantics.{ActionSemantics, ProcessSemantics}
 use Rattle.register_code.specs.declared.bad.Part.TheVariants as part
 use Rattle.register_code.specs.declared.code.Code.{Code}
 use Rattle.register_code.specs.declared.code.CodeAction.{CodeAction}

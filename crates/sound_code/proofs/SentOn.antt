@@ -21,8 +21,8 @@ use Rattle.register_code.specs.Sites.{Site, holds_of, lies_in}
 use Rattle.sound_code.proofs.Fitted.{both_drop, both_take, lies_on}
 use Rattle.tap_base.specs.Ranges.{AreAllIn}
 use Rattle.tap_exec.specs.Filling.{filled}
-use Rattle.abstract_run.specs.Messages.{AreFields, Receives}
-use Rattle.abstract_run.specs.Semantics.{ProcessSemantics, receive}
+use Rattle.byte_meaning.specs.Messages.{AreFields, Receives}
+use Rattle.tap_exec.specs.Semantics.{ProcessSemantics, receive}
 use Rattle.register_code.specs.declared.code.Code.{Code}
 use Rattle.register_code.specs.declared.code.CodeAction.{CodeAction}
 use Rattle.register_code.specs.declared.code.CodeKind.{CodeKind}

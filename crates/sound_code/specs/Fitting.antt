@@ -6,7 +6,7 @@ use Rattle.tap_base.specs.Ranges.{AreAllIn, values_of}
 use Rattle.tap_exec.specs.declared.running.Outgoing.{Outgoing}
 use Rattle.tap_exec.specs.Execution.{takes}
 use Rattle.abstract_run.specs.Fits.{IsFitTimer}
-use Rattle.abstract_run.specs.Messages.{AreFields, IsFitSend}
+use Rattle.byte_meaning.specs.Messages.{AreFields, IsFitSend}
 use Rattle.register_code.specs.declared.code.CodeField.{CodeField}
 use Rattle.register_code.specs.declared.instr.Instr.{Instr}
 use Rattle.register_code.specs.declared.instr.Instr.TheVariants as instr

@@ -3,7 +3,7 @@ use Rattle.std.specs.Prelude.{◌≡◌, ◌≢◌, ℕ, ◌+◌, ◌≤◌, ℤ
 use Rattle.tap_exec.specs.declared.running.Running.{Running}
 use Rattle.tap_base.specs.Lists.{Each}
 use Rattle.tap_base.specs.Ranges.{AreAllIn}
-use Rattle.abstract_run.specs.Messages.{IsFitSend}
+use Rattle.byte_meaning.specs.Messages.{IsFitSend}
 use Rattle.abstract_run.specs.Safe.{IsFitRunning}
 use Rattle.register_code.specs.CodeSemantics.{code_process, code_semantics}
 use Rattle.register_code.specs.declared.bad.Part.{Part}

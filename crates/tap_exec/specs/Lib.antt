@@ -4,6 +4,7 @@ pub mod Execution
 pub mod Filling
 pub mod Front
 pub mod Left
+pub mod Semantics
 pub mod Value
 pub mod Worked
 pub mod inner

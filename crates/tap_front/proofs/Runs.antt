@@ -2,8 +2,8 @@
 -- told apart.
 use Rattle.tap_base.specs.declared.system.System.{System}
 use Rattle.tap_base.specs.Wires.{wire_of}
-use Rattle.abstract_run.specs.Messages.{Receives}
-use Rattle.abstract_run.specs.Semantics.{messages_of, semantics_of}
+use Rattle.byte_meaning.specs.Messages.{Receives}
+use Rattle.tap_exec.specs.Semantics.{messages_of, semantics_of}
 use Rattle.byte_meaning.specs.Apart.{TellsApart}
 use Rattle.byte_meaning.proofs.Apart.{systems_mean}
 use Rattle.byte_meaning.proofs.Receivers.{wires_say_the_same}
@@ -18,8 +18,9 @@ accepted_is_checked text system h = record { resolved = resolved_is_whole text h
 
 pub accepted_is_safe : AcceptedIsSafe
 accepted_is_safe text system h =
-    let sound = (checked_sound system (accepted_is_checked text system h)).1 in
-    record { begins = sound.begins; keeps = sound.keeps; computed = sound.computes }
+    let checked = accepted_is_checked text system h in
+    let sound = (checked_sound system checked).1 in
+    record { messages = checked.resolved.messages; begins = sound.begins; keeps = sound.keeps; computed = sound.computes }
 
 pub accepted_runs : AcceptedRuns
 accepted_runs text system h chooses_none = checked_runs system (accepted_is_checked text system h) chooses_none

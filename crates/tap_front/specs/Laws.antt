@@ -1,9 +1,9 @@
 -- What the definitions of texts promise by themselves.
 use Rattle.std.specs.Prelude.{◌≡◌, ℕ, ◌≤◌, false, List, length, codes}
 use Rattle.abstract_run.specs.Runnable.{IsRunnable}
-use Rattle.abstract_run.specs.Messages.{Receives}
+use Rattle.byte_meaning.specs.Messages.{Receives}
 use Rattle.abstract_run.specs.Safe.{IsSafe}
-use Rattle.abstract_run.specs.Semantics.{messages_of, semantics_of}
+use Rattle.tap_exec.specs.Semantics.{messages_of, semantics_of}
 use Rattle.byte_meaning.specs.Laws.{SpellingsMean}
 use Rattle.tap_exec.specs.Choosing.{system_chooses}
 use Rattle.tap_base.specs.declared.ast.Ast.{Ast}

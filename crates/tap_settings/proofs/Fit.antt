@@ -15,7 +15,7 @@ use Rattle.tap_base.specs.Ranges.{AreIn, is_within}
 use Rattle.tap_base.proofs.OptionFacts.{bound}
 use Rattle.tap_base.proofs.RangeFacts.{within_decides}
 use Rattle.abstract_run.specs.Fits.{InputsFit}
-use Rattle.abstract_run.specs.Semantics.{ProcessSemantics, input_ranges, input_semantics, messages_of, process_semantics, semantics_of}
+use Rattle.tap_exec.specs.Semantics.{ProcessSemantics, input_ranges, input_semantics, messages_of, process_semantics, semantics_of}
 use Rattle.tap_settings.specs.GivenInputs.{inputs_given, is_declared, value_given, values_given}
 use Rattle.tap_base.specs.ListWords.{each_by_number, only}
 use Rattle.tap_settings.specs.Values.{values_at}

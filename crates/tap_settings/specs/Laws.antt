@@ -3,7 +3,7 @@ use Rattle.std.specs.Prelude.{◌≡◌, ◌↔◌, ℕ, List, [], Some, IsSome}
 use Rattle.tap_base.specs.declared.system.Inputs.{Inputs}
 use Rattle.tap_base.specs.declared.system.System.{System}
 use Rattle.abstract_run.specs.Fits.{InputsFit}
-use Rattle.abstract_run.specs.Semantics.{semantics_of}
+use Rattle.tap_exec.specs.Semantics.{semantics_of}
 use Rattle.tap_settings.specs.GivenInputs.{inputs_given}
 use Rattle.tap_settings.specs.Offences.{settings_offences}
 use Rattle.tap_settings.specs.SettingText.{Assignment, SpellsSetting}

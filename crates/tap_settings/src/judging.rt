@@ -2,7 +2,7 @@
 
 ghost use Rattle.std.specs.Prelude.{IfOk};
 ghost use Rattle.abstract_run.specs.Fits.{InputsFit};
-ghost use Rattle.abstract_run.specs.Semantics.{semantics_of};
+ghost use Rattle.tap_exec.specs.Semantics.{semantics_of};
 ghost use Rattle.tap_settings.specs.GivenInputs.{inputs_given};
 ghost use Rattle.tap_settings.specs.Offences.{settings_offences};
 ghost use Rattle.tap_settings.specs.Refusals.{Judges};

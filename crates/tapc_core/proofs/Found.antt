@@ -66,7 +66,7 @@ played_found system schedule contents Usage a b h = absurd h
 played_found system schedule contents ReadFault a b h = absurd h
 played_found system schedule contents LinkFault a b h = absurd h
 played_found system schedule contents NotARun a b h = absurd h
-played_found system schedule contents WorldFull a b h = absurd h
+played_found system schedule contents WorldFull a b h = (a, (b, tt))
 
 -- a text that was refused was read
 pub refused_read : (T : Type 0) (fault : FileFault) (o : Offence) → fault ≡ file.Refused o → WasRead {T = T} (Err fault)

@@ -6,7 +6,7 @@ use Rattle.tap_base.specs.declared.system.Process.{Process}
 use Rattle.tap_base.specs.declared.system.System.{System}
 use Rattle.tap_base.specs.declared.wire.WireField.{WireField}
 use Rattle.tap_base.specs.Wires.{wire_of}
-use Rattle.abstract_run.specs.Semantics.{messages_of, process_semantics, semantics_of}
+use Rattle.tap_exec.specs.Semantics.{messages_of, process_semantics, semantics_of}
 use Rattle.run_text.specs.Names.{AreNames}
 use Rattle.run_text.specs.TraceText.{names_in}
 use Rattle.tap_front.specs.Accepting.{TellsApart}

@@ -2,7 +2,7 @@
 use Rattle.std.proofs.Common.{◌≡◌, ℕ, List, Option, Some, None, IfSome, refl, subst, sym}
 use Rattle.tap_base.specs.declared.system.Inputs.{Inputs}
 use Rattle.tap_base.specs.declared.system.System.{System}
-use Rattle.abstract_run.specs.Semantics.{Semantics, semantics_of}
+use Rattle.tap_exec.specs.Semantics.{Semantics, semantics_of}
 use Rattle.tap_front.specs.Runs.{CanRun}
 use Rattle.tap_settings.specs.GivenInputs.{inputs_given}
 use Rattle.tap_settings.specs.SettingText.{Assignment}

@@ -4,33 +4,36 @@ use Rattle.std.specs.Option.{option_map}
 use Rattle.std.specs.Io.KnownBytes.{Appends}
 use Rattle.tap_base.specs.declared.system.Inputs.{Inputs}
 use Rattle.tap_base.specs.declared.system.System.{System}
+use Rattle.abstract_run.specs.CellCount.{cells_in}
 use Rattle.abstract_run.specs.Answers.{Answers}
 use Rattle.abstract_run.specs.Fits.{Fits}
 use Rattle.abstract_run.specs.Opening.{opening_state}
-use Rattle.abstract_run.specs.Semantics.{Semantics, semantics_of}
+use Rattle.tap_exec.specs.Semantics.{Semantics, semantics_of}
 use Rattle.abstract_run.specs.declared.label.Event.{Event}
 use Rattle.abstract_run.specs.declared.label.Label.{Label}
 use Rattle.abstract_run.specs.declared.state.State.{State}
-use Rattle.run_text.specs.ScheduleText.{BeginsBadly, BeginsSchedule, GoesOnAfter, SpellsSchedule, events_text, most_events}
+use Rattle.run_text.specs.ScheduleText.{AreListed, BeginsBadly, BeginsSchedule, GoesOnAfter, MeetsEvent, SpellsSchedule, events_text, most_events}
 use Rattle.run_text.specs.TraceText.{last_lines, lines_text, names_in, run_lines}
 use Rattle.run_text.proofs.FewLines.{few_lines}
 use Rattle.run_text.proofs.RunLines.{whole_trace}
 use Rattle.tap_front.specs.Lines.{refused_line}
 use Rattle.tap_front.specs.declared.offence.Offence.{Offence}
-use Rattle.tapc_core.specs.Lines.{bad_line, no_memory_line, read_fault_line}
+use Rattle.tapc_core.specs.Lines.{bad_line, full_line, no_memory_line, read_fault_line}
 use Rattle.tapc_core.specs.Run.{Played, Task}
 use Rattle.tapc_core.specs.Written.{IsWritten, Writes}
-use Rattle.tapc_core.specs.commands.World.{IsBadTrace, IsFrontOfTrace, IsPlayed, IsTrace, IsUnfinished, OfWorld}
+use Rattle.tapc_core.specs.commands.World.{IsBadTrace, IsFrontOfTrace, IsFullTrace, IsPlayed, IsTrace, IsUnfinished, OfWorld}
 use Rattle.tapc_core.specs.declared.files.FileFault.{FileFault}
 use Rattle.tapc_core.specs.declared.files.FileFault.TheVariants as file
 use Rattle.tapc_core.specs.declared.status.Status.{Status}
 use Rattle.tapc_core.specs.declared.status.Status.TheVariants.{Done, Refused, Usage, BadSchedule, ReadFault, WriteFault, LinkFault, NoMemory, NotARun, WorldFull}
 use Rattle.tapc_core.specs.inner.Closing.{Closes, ClosesOr, failed, put}
 use Rattle.tapc_core.specs.inner.FileFaults.{GivesUp}
-use Rattle.tapc_core.specs.inner.Playing.{AreOf, Broken, Passed, Progress}
+use Rattle.tapc_core.specs.inner.Playing.{AreOf, Broken, IsNext, Passed, Progress}
 use Rattle.tapc_core.proofs.GivenTexts.{if_some}
 use Rattle.tapc_core.proofs.Steps.{answered, appends_more, appends_none}
 use Rattle.abstract_run.specs.Runnable.{IsRunnable}
+use Rattle.timed_runs.proofs.DelaysKept.{systems_keep}
+use Rattle.world_run.specs.Served.{full_from}
 use Rattle.world_run.proofs.Lines.{lines_append}
 
 -- ---- closing
@@ -104,8 +107,16 @@ begins names schedule rest events (inr h) = ([], h.1 ∙ sym (append-nil (events
 
 abbrev played : {system : System} {inputs : Inputs} {schedule rest : List ℕ} {number : ℕ} {s : State} {before now : Option (List ℕ)} {page : List ℕ} {task : Task}
     → AreOf system inputs schedule task → Progress (semantics_of system) (opening_state (semantics_of system) inputs) schedule rest number s before now page → Played task
-played {system = system} {inputs = inputs} {s = s} {task = task} of p =
-    record { semantics = semantics_of system; inputs = inputs; gives = of.gives; events = p.events; labels = p.labels; last = s; run = p.run }
+played {system = system} {inputs = inputs} {s = s} {task = task} of p = record {
+  semantics = semantics_of system;
+  inputs = inputs;
+  gives = of.gives;
+  events = p.events;
+  labels = p.labels;
+  last = s;
+  run = p.run;
+  delays = systems_keep system inputs p.labels s (answered (semantics_of system) (opening_state (semantics_of system) inputs) s p.events p.labels p.run.answers);
+}
 
 -- nothing is falling at the end of a run
 settled_end : (m : Semantics) (s t : State) (es : List Event) (labels : List Label) → s.falling ≡ None → Answers m s es labels t → t.falling ≡ None
@@ -157,6 +168,34 @@ bad_output {system = system} {schedule = schedule} {rest = rest} {number = numbe
       lines = p.put ++ page;
       shown = so_far p;
       is = sym (append_assoc p.put page (bad_line number)) ∙ ap (λ n. (p.put ++ page) ++ bad_line n) p.count;
+    }
+
+-- the line of an event comes next
+meets : {names : List (List ℕ)} {schedule rest : List ℕ} {events : List Event} {number : ℕ} → AreListed (length names) events → Passed names schedule events rest → IsNext names rest number
+    → number ≡ length events + 1 → MeetsEvent names schedule events
+meets {names = names} {schedule = schedule} {rest = rest} {events = events} listed passed next count = record {
+  rest = rest;
+  listed = listed;
+  split = goes_on names schedule rest events next.some passed;
+  line = next.line;
+  behind = next.behind;
+  first = next.first;
+  event = next.event;
+  next = next.is;
+  one_more = let few = next.few in omega (arith, few, count);
+}
+
+pub full_output : {system : System} {inputs : Inputs} {schedule rest : List ℕ} {number cells : ℕ} {s : State} {before now : Option (List ℕ)} {page : List ℕ} {task : Task}
+    → AreOf system inputs schedule task → IsNext (names_in (semantics_of system)) rest number → full_from < cells → cells ≡ cells_in s
+    → (p : Progress (semantics_of system) (opening_state (semantics_of system) inputs) schedule rest number s before now page) → IsFullTrace task (p.put ++ (page ++ full_line cells))
+full_output {system = system} {schedule = schedule} {cells = cells} {s = s} {page = page} {task = task} of next many same p =
+    record {
+      run = played of p;
+      schedule = of_schedule task.schedule schedule (λ t. MeetsEvent (names_in (semantics_of system)) t p.events) (meets p.listed p.passed next p.count) of.schedule_is;
+      many = subst (λ n. full_from < n) same many;
+      lines = p.put ++ page;
+      shown = so_far p;
+      is = sym (append_assoc p.put page (full_line cells)) ∙ ap (λ n. (p.put ++ page) ++ full_line n) same;
     }
 
 front_output : {system : System} {inputs : Inputs} {schedule rest : List ℕ} {number : ℕ} {s : State} {before now : Option (List ℕ)} {page : List ℕ} {task : Task}
@@ -229,6 +268,13 @@ pub bad_closes : (task : Task) {system : System} {inputs : Inputs} {schedule res
     → Progress (semantics_of system) (opening_state (semantics_of system) inputs) schedule rest number s before middle page → ClosesOr BadSchedule (page ++ bad_line number) (page ++ no_memory_line) middle now r → Writes (OfWorld task) r before now
 bad_closes task of more bad p (inl h) = closes_behind (OfWorld task) p.put p.told (bad_output of more bad p) h
 bad_closes task of more bad p (inr h) = closes_behind (OfWorld task) p.put p.told (unfinished_output of p) h
+
+-- an event is reached with too many cells
+pub full_closes : (task : Task) {system : System} {inputs : Inputs} {schedule rest : List ℕ} {number cells : ℕ} {s : State} {before middle now : Option (List ℕ)} {page : List ℕ} {r : Status}
+    → AreOf system inputs schedule task → IsNext (names_in (semantics_of system)) rest number → full_from < cells → cells ≡ cells_in s
+    → Progress (semantics_of system) (opening_state (semantics_of system) inputs) schedule rest number s before middle page → ClosesOr WorldFull (page ++ full_line cells) (page ++ no_memory_line) middle now r → Writes (OfWorld task) r before now
+full_closes task of next many same p (inl h) = closes_behind (OfWorld task) p.put p.told (full_output of next many same p) h
+full_closes task of next many same p (inr h) = closes_behind (OfWorld task) p.put p.told (unfinished_output of p) h
 
 -- memory was refused
 pub unfinished_closes : (task : Task) {system : System} {inputs : Inputs} {schedule rest : List ℕ} {number : ℕ} {s : State} {before middle now : Option (List ℕ)} {page : List ℕ} {r : Status}

@@ -6,20 +6,25 @@ use Rattle.std.specs.Io.KnownBytes.{Appends}
 use Rattle.tap_base.specs.Lists.{Each}
 use Rattle.tap_base.specs.Option.{◌>>=◌}
 use Rattle.abstract_run.specs.Answers.{Answers, Serves}
-use Rattle.abstract_run.specs.Semantics.{Semantics}
+use Rattle.abstract_run.specs.CellCount.{cells_in}
+use Rattle.tap_exec.specs.Semantics.{Semantics}
 use Rattle.abstract_run.specs.Run.{state_after}
 use Rattle.abstract_run.specs.Step.{step}
 use Rattle.abstract_run.specs.declared.label.Event.{Event}
 use Rattle.abstract_run.specs.declared.label.Label.{Label}
 use Rattle.abstract_run.specs.declared.state.State.{State}
-use Rattle.run_text.specs.ScheduleText.{AreListed, IsFirstLine, IsListed, SpellsEvent, event_line, events_text, most_events}
+use Rattle.run_text.specs.ScheduleText.{AreListed, HasLine, IsFirstLine, IsLineOf, event_line, events_text, most_events}
 use Rattle.run_text.specs.TraceText.{lines_text, names_in}
 use Rattle.tapc_core.specs.inner.Playing.{Passed, Progress}
+use Rattle.tapc_core.specs.Run.{AnswersInRoom}
 use Rattle.guard_scheduler.specs.Cursor.{Cursor}
 use Rattle.exact_choice.specs.Choice.{AllChoose, ChoosesInTurn, opening_cursors}
 use Rattle.exact_choice.specs.Moments.{moments}
+use Rattle.exact_choice.specs.Rejects.{AllReject, RejectsInOrder, opening_errors}
 use Rattle.exact_choice.proofs.Joined.{all_joined, moments_joined}
-use Rattle.world_run.specs.Served.{Served}
+use Rattle.exact_choice.proofs.RejectsJoined.{all_reject_joined}
+use Rattle.world_run.specs.declared.course.Course.{Course}
+use Rattle.world_run.specs.Served.{Served, full_from}
 use Rattle.run_text.proofs.RunLines.{run_lines_more}
 use Rattle.world_run.proofs.Lines.{lines_append}
 
@@ -47,7 +52,7 @@ lines_more f xs ys = ap lines_text (map-append f xs ys) ∙ flat_map-append (λ 
 -- ---- the schedule
 
 -- one more event of a schedule
-pub listed_more : (n : ℕ) (events : List Event) (e : Event) → AreListed n events → IsListed n e → length events + 1 ≤ most_events → AreListed n (events ++ e ∷ [])
+pub listed_more : (n : ℕ) (events : List Event) (e : Event) → AreListed n events → HasLine n e → length events + 1 ≤ most_events → AreListed n (events ++ e ∷ [])
 listed_more n events e h k few = record { each = each_more _ events e h.each k; few = omega (arith, few, length-append events (e ∷ [])) }
 
 event_more : (names : List (List ℕ)) (events : List Event) (e : Event) → events_text names (events ++ e ∷ []) ≡ events_text names events ++ (event_line names e ++ 10 ∷ [])
@@ -90,6 +95,17 @@ answers_more m s t u [] e labels more h served =
 answers_more m s t u (d ∷ es) e labels more h served =
     (h.0, h.1 ++ more, h.2, ap (λ xs. xs ++ more) h.3 ∙ append_assoc h.0 h.1 more, h.4, answers_more m h.2 t u es e h.1 more h.5 served)
 
+-- one more event, which was reached with room
+pub in_room_more : (m : Semantics) (s t u : State) (es : List Event) (e : Event) (labels more : List Label)
+    → AnswersInRoom m s es labels t → cells_in t ≤ full_from → Serves m t e more u → AnswersInRoom m s (es ++ e ∷ []) (labels ++ more) u
+in_room_more m s t u [] e labels more h room served = (
+  subst (λ (x : State). cells_in x ≤ full_from) h.1 room,
+  (more, [], u, ap (λ xs. xs ++ more) h.0 ∙ sym (append-nil more), subst (λ x. Serves m x e more u) h.1 served, (refl, refl)),
+)
+in_room_more m s t u (d ∷ es) e labels more h room served =
+    let k = h.1 in
+    (h.0, (k.0, k.1 ++ more, k.2, ap (λ xs. xs ++ more) k.3 ∙ append_assoc k.0 k.1 more, k.4, in_room_more m k.2 t u es e k.1 more k.5 room served))
+
 go_on : {A B : Type 0} (o : Option A) (f g : A → Option B) (t u : B) → ((a : A) → f a ≡ Some t → g a ≡ Some u) → (o >>= f) ≡ Some t → (o >>= g) ≡ Some u
 go_on None f g t u go h = cc
 go_on (Some a) f g t u go h = go a h
@@ -114,6 +130,17 @@ chosen_more m s t xs ys later h x more = (
   refl,
 )
 
+-- what is rejected in a run and what is rejected from its end on
+rejected_more : (m : Semantics) (s t : State) (xs ys : List Label) (later : List (List ℕ)) → state_after m s xs ≡ Some t → (x : RejectsInOrder m s xs) → AllReject (moments m t ys) x.errors later
+    → (y : RejectsInOrder m s (xs ++ ys)) × (y.errors ≡ later)
+rejected_more m s t xs ys later h x more = (
+  record {
+    errors = later;
+    all = subst (λ ms. AllReject ms (opening_errors m) later) (sym (moments_joined m s t xs ys h)) (all_reject_joined (moments m s xs) (moments m t ys) (opening_errors m) x.errors later x.all more);
+  },
+  refl,
+)
+
 pub answered : (m : Semantics) (s t : State) (es : List Event) (labels : List Label) → Answers m s es labels t → state_after m s labels ≡ Some t
 answered m s t [] labels h = ap (state_after m s) h.0 ∙ ap Some (sym h.1)
 answered m s t (e ∷ es) labels h = ap (state_after m s) h.3 ∙ state_after_more m s h.2 t h.0 h.1 h.4.ran (answered m h.2 t es h.1 h.5)
@@ -124,20 +151,27 @@ each_and : {A : Type 0} (P : A → Type 0) (xs ys : List A) → Each P xs → Ea
 each_and P [] ys h k = k
 each_and P (x ∷ xs) ys h k = (h.0, each_and P xs ys h.1 k)
 
--- what is served goes on, and the cursors stand so
-pub record Goes (semantics : Semantics) (start : State) (schedule rest : List ℕ) (number : ℕ) (s : State) (cursors : List Cursor) (before now : Option (List ℕ)) (page : List ℕ) : Type 0 where
-  pub progress : Progress semantics start schedule rest number s before now page
-  pub stand : progress.run.chosen.cursors ≡ cursors
+-- what is served goes on, and the cursors and the errors that wait are those of the course
+pub record Goes (semantics : Semantics) (start : State) (schedule rest : List ℕ) (number : ℕ) (course : Course) (before now : Option (List ℕ)) (page : List ℕ) : Type 0 where
+  pub progress : Progress semantics start schedule rest number course.state before now page
+  pub stand : progress.run.chosen.cursors ≡ course.turnstiles
+  pub wait : progress.run.rejected.errors ≡ course.errors
 
-pub goes_start : (semantics : Semantics) (start : State) (schedule : List ℕ) (before : Option (List ℕ)) → Goes semantics start schedule schedule 1 start (opening_cursors semantics) before before []
-goes_start semantics start schedule before = record {
+pub goes_start : (semantics : Semantics) (course : Course) (schedule : List ℕ) (before : Option (List ℕ)) → course.turnstiles ≡ opening_cursors semantics → course.errors ≡ opening_errors semantics
+    → Goes semantics course.state schedule schedule 1 course before before []
+goes_start semantics course schedule before stand wait = record {
   progress = record {
     events = [];
     listed = record { each = tt; few = lit≤ tt };
     passed = inl refl;
     count = refl;
     labels = [];
-    run = record { answers = (refl, refl); chosen = record { cursors = opening_cursors semantics; all = refl } };
+    run = record {
+      answers = (refl, refl);
+      in_room = (refl, refl);
+      chosen = record { cursors = opening_cursors semantics; all = refl };
+      rejected = record { errors = opening_errors semantics; all = refl };
+    };
     sized = tt;
     put = [];
     told = appends_none before;
@@ -145,17 +179,22 @@ goes_start semantics start schedule before = record {
     shown = refl;
     is = refl;
   };
-  stand = refl;
+  stand = sym stand;
+  wait = sym wait;
 }
 
-pub goes_more : {semantics : Semantics} {start : State} {schedule rest line tail : List ℕ} {number : ℕ} {s t : State} {cursors later : List Cursor} {before now : Option (List ℕ)} {page after : List ℕ} {e : Event}
-    → number ≤ most_events → Goes semantics start schedule rest number s cursors before now page → (rest ≡ [] → ⊥) → IsFirstLine rest line tail → SpellsEvent (names_in semantics) line e
-    → Served semantics e s t cursors later page after → Goes semantics start schedule tail (number + 1) t later before now after
-goes_more {semantics = semantics} {number = number} {s = s} {t = t} {cursors = cursors} {later = later} {page = page} {after = after} {e = e} few g some first spells served =
+pub goes_more : {semantics : Semantics} {start : State} {schedule rest line tail : List ℕ} {number : ℕ} {old new : Course} {before now : Option (List ℕ)} {page after : List ℕ} {e : Event}
+    → number ≤ most_events → Goes semantics start schedule rest number old before now page → (rest ≡ [] → ⊥) → IsFirstLine rest line tail → IsLineOf (names_in semantics) line e
+    → cells_in old.state ≤ full_from → Served semantics e old new page after → Goes semantics start schedule tail (number + 1) new before now after
+goes_more {semantics = semantics} {number = number} {old = old} {new = new} {page = page} {after = after} {e = e} few g some first spells room served =
     let p = g.progress in
+    let s = old.state in
+    let t = new.state in
+    let did = served.did in
     let ran = answered semantics _ s p.events p.labels p.run.answers in
-    let wrote = served.wrote in
-    let more = chosen_more semantics _ s p.labels served.labels later ran p.run.chosen (subst (λ cs. AllChoose semantics (moments semantics s served.labels) cs later) (sym g.stand) served.chosen) in
+    let wrote = did.wrote in
+    let more = chosen_more semantics _ s p.labels served.labels new.turnstiles ran p.run.chosen (subst (λ cs. AllChoose semantics (moments semantics s served.labels) cs new.turnstiles) (sym g.stand) did.chosen) in
+    let fewer = rejected_more semantics _ s p.labels served.labels new.errors ran p.run.rejected (subst (λ es. AllReject (moments semantics s served.labels) es new.errors) (sym g.wait) did.rejected) in
     record {
       progress = record {
         events = p.events ++ e ∷ [];
@@ -163,8 +202,13 @@ goes_more {semantics = semantics} {number = number} {s = s} {t = t} {cursors = c
         passed = passed_more (names_in semantics) _ p.events _ _ _ e some p.passed first spells.1;
         count = omega (arith, p.count, length-append p.events (e ∷ []));
         labels = p.labels ++ served.labels;
-        run = record { answers = answers_more semantics _ s t p.events e p.labels served.labels p.run.answers served.serves; chosen = more.0 };
-        sized = each_and _ p.labels served.labels p.sized served.sized;
+        run = record {
+          answers = answers_more semantics _ s t p.events e p.labels served.labels p.run.answers served.serves;
+          in_room = in_room_more semantics _ s t p.events e p.labels served.labels p.run.in_room room served.serves;
+          chosen = more.0;
+          rejected = fewer.0;
+        };
+        sized = each_and _ p.labels served.labels p.sized did.sized;
         put = p.put;
         told = p.told;
         lines = p.lines ++ wrote.lines;
@@ -172,11 +216,12 @@ goes_more {semantics = semantics} {number = number} {s = s} {t = t} {cursors = c
         is = lines_append p.lines wrote.lines ∙ ap (λ z. z ++ lines_text wrote.lines) p.is ∙ append_assoc p.put page (lines_text wrote.lines) ∙ ap (λ z. p.put ++ z) (sym wrote.told);
       };
       stand = more.1;
+      wait = fewer.1;
     }
 
 -- the front of the page was put
-pub goes_moved : {semantics : Semantics} {start : State} {schedule rest : List ℕ} {number : ℕ} {s : State} {cursors : List Cursor} {before middle now : Option (List ℕ)} {page left : List ℕ}
-    → Goes semantics start schedule rest number s cursors before middle page → (put : List ℕ) → Appends middle now put → put ++ left ≡ page → Goes semantics start schedule rest number s cursors before now left
+pub goes_moved : {semantics : Semantics} {start : State} {schedule rest : List ℕ} {number : ℕ} {course : Course} {before middle now : Option (List ℕ)} {page left : List ℕ}
+    → Goes semantics start schedule rest number course before middle page → (put : List ℕ) → Appends middle now put → put ++ left ≡ page → Goes semantics start schedule rest number course before now left
 goes_moved {before = before} {middle = middle} {now = now} {left = left} g put told cut =
     let p = g.progress in
     record {
@@ -195,4 +240,5 @@ goes_moved {before = before} {middle = middle} {now = now} {left = left} g put t
         is = p.is ∙ ap (λ z. p.put ++ z) (sym cut) ∙ sym (append_assoc p.put put left);
       };
       stand = g.stand;
+      wait = g.wait;
     }

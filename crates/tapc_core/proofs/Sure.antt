@@ -5,7 +5,7 @@ use Rattle.std.proofs.lemmas.Option.{none-some}
 use Rattle.tap_base.specs.declared.ast.Ast.{Ast}
 use Rattle.tap_base.specs.declared.system.Inputs.{Inputs}
 use Rattle.tap_base.specs.declared.system.System.{System}
-use Rattle.abstract_run.specs.Semantics.{Semantics, semantics_of}
+use Rattle.tap_exec.specs.Semantics.{Semantics, semantics_of}
 use Rattle.run_text.specs.ScheduleText.{GoesOnAfter, SpellsSchedule}
 use Rattle.run_text.specs.TraceText.{names_in}
 use Rattle.run_text.proofs.ScheduleBoth.{never_both}
@@ -180,25 +180,28 @@ print_outcome text sure NotARun bytes s h = absurd h
 print_outcome text sure WorldFull bytes s h = absurd h
 
 world_outcome : (task : Task) (sure r : Status) (bytes : List ℕ) → WorldIsSure task sure → IsWritten (OfWorld task) r bytes → Outcome sure r
-world_outcome task sure Done bytes (plays v) h = done
-world_outcome task sure Refused bytes (plays v) h = absurd (not_world_refused task bytes v.text v.inputs v.given h)
-world_outcome task sure BadSchedule bytes (plays v) h = absurd (not_both task bytes v h)
-world_outcome task sure Done bytes (stops v) h = absurd (not_ended task bytes v h)
-world_outcome task sure Refused bytes (stops v) h = absurd (not_world_refused task bytes v.text v.inputs v.given h)
-world_outcome task sure BadSchedule bytes (stops v) h = done
+world_outcome task sure Done bytes (plays v never) h = done
+world_outcome task sure Refused bytes (plays v never) h = absurd (not_world_refused task bytes v.text v.inputs v.given h)
+world_outcome task sure BadSchedule bytes (plays v never) h = absurd (not_both task bytes v h)
+world_outcome task sure WorldFull bytes (plays v never) h = absurd (never bytes h)
+world_outcome task sure Done bytes (stops v never) h = absurd (not_ended task bytes v h)
+world_outcome task sure Refused bytes (stops v never) h = absurd (not_world_refused task bytes v.text v.inputs v.given h)
+world_outcome task sure BadSchedule bytes (stops v never) h = done
+world_outcome task sure WorldFull bytes (stops v never) h = absurd (never bytes h)
 world_outcome task sure Done bytes (refuses b) h = absurd (not_given task b h.run)
 world_outcome task sure Refused bytes (refuses b) h = done
 world_outcome task sure BadSchedule bytes (refuses b) h = absurd (not_given task b h.run)
+world_outcome task sure WorldFull bytes (refuses b) h = absurd (not_given task b h.run)
 world_outcome task sure Done bytes (missets b) h = absurd (not_played task b h.run)
 world_outcome task sure Refused bytes (missets b) h = done
 world_outcome task sure BadSchedule bytes (missets b) h = absurd (not_played task b h.run)
+world_outcome task sure WorldFull bytes (missets b) h = absurd (not_played task b h.run)
 world_outcome task sure ReadFault bytes s h = unread
 world_outcome task sure WriteFault bytes s h = unwritten
 world_outcome task sure NoMemory bytes s h = no_memory
 world_outcome task sure Usage bytes s h = absurd h
 world_outcome task sure LinkFault bytes s h = absurd h
 world_outcome task sure NotARun bytes s h = absurd h
-world_outcome task sure WorldFull bytes s h = absurd h
 
 outcome : (asked : Option Asked) (contents : Contents) (sure r : Status) (bytes : List ℕ) → (command_for asked).is_sure contents sure → IsWritten ((command_for asked).writes contents) r bytes → Outcome sure r
 outcome None contents sure r bytes s h = no_command_outcome sure r bytes s h

@@ -1,25 +1,23 @@
 //! The world is played on a schedule.
 
-ghost use Rattle.std.specs.Prelude.{◌≡◌, ◌≤◌, ◌<◌, ◌^◌, ◌⊎◌, [], length, MatchOption, OnSome};
-ghost use Rattle.abstract_run.specs.CellCount.{cells_in};
-ghost use Rattle.abstract_run.specs.Semantics.{semantics_of};
+ghost use Rattle.std.specs.Prelude.{◌≡◌, ◌≤◌, ◌<◌, ◌^◌, ◌⊎◌, [], length, IfOk, MatchOption, OnSome};
+ghost use Rattle.tap_exec.specs.Semantics.{semantics_of};
 ghost use Rattle.exact_choice.specs.Choice.{opening_cursors};
+ghost use Rattle.exact_choice.specs.Rejects.{opening_errors};
 ghost use Rattle.run_text.specs.Names.{AreNames};
-ghost use Rattle.run_text.specs.ScheduleText.{IsOfNoEvent, SpellsEvent, most_events};
+ghost use Rattle.run_text.specs.ScheduleText.{IsLineOf, IsOfNoEvent, most_events};
 ghost use Rattle.run_text.specs.TraceText.{names_in};
 ghost use Rattle.link_trait.specs.Outside.{HasCause};
 ghost use Rattle.tapc_core.specs.inner.Playing.{HasPlayCause, Moves, Plays};
-ghost use Rattle.abstract_run.specs.Runnable.{IsRunnable};
-ghost use Rattle.world_run.specs.Layouts.{IsLayoutOf};
 ghost use Rattle.world_run.specs.Names.{AreNamesOf};
-ghost use Rattle.world_run.specs.Served.{IsSteady};
+ghost use Rattle.world_run.specs.Served.{GoesOn};
 
 use abstract_run::Event;
 use link_trait::{Failed, Sink};
-use run_text::{Names, first_line, read_event};
+use run_text::{LineFault, Names, first_line, read_event};
 use std::alloc::Global;
 use tap_base::NoMemory;
-use world_run::World;
+use world_run::{World, WorldFault};
 
 /// How many bytes are gathered before they are put.
 const PAGE: usize = 4096;
@@ -32,10 +30,26 @@ const MOST_EVENTS: u64 = 1_000_000;
 pub enum Stop {
     /// A line of the schedule, counted from 1, is that of no event, or of one event too many.
     BadLine { number: u64 },
+    /// An event was reached with so many cells in the channels: too many.
+    Full { cells: u32 },
     /// Memory was refused.
     NoMemory,
     /// A put failed.
     Failed,
+}
+
+impl From<WorldFault> for Stop {
+    ghost use Rattle.std.specs.Prelude.{◌≡◌};
+    ghost use Rattle.tapc_core.specs.inner.Playing.{stopped_by};
+
+    ghost from_gives = { λ fault given. given ≡ stopped_by fault };
+
+    fn from(fault: WorldFault) -> Stop {
+        match fault {
+            WorldFault::Full { cells } => Stop::Full { cells },
+            WorldFault::NoMemory => Stop::NoMemory,
+        }
+    }
 }
 
 impl From<NoMemory> for Stop {
@@ -68,15 +82,13 @@ pub fn play_lines<O: Sink>(
     page: &mut Vec<u8>,
     out: &mut O,
 ) -> Result<(), Stop>
-    requires runnable { IsRunnable world.old.system }
-    requires layout { IsLayoutOf world.old.system world.old.layout }
-    requires steady { IsSteady (semantics_of world.old.system) world.old.state }
-    requires no_cells { cells_in world.old.state ≡ 0 }
-    requires opened { world.old.turnstiles ≡ opening_cursors (semantics_of world.old.system) }
+    requires goes_on { GoesOn world.old }
+    requires opened { world.old.course.turnstiles ≡ opening_cursors (semantics_of world.old.system) }
+    requires no_errors { world.old.course.errors ≡ opening_errors (semantics_of world.old.system) }
     requires names { AreNamesOf (semantics_of world.old.system) names.now }
     requires apart { AreNames (names_in (semantics_of world.old.system)) }
     requires empty { page.old.items ≡ [] }
-    ensures plays { Plays (semantics_of world.old.system) world.old.state schedule.now (O.written out.old) result world.new.state (O.written out.new) page.new.items }
+    ensures plays { Plays (semantics_of world.old.system) world.old.course.state schedule.now (O.written out.old) result world.new.course.state (O.written out.new) page.new.items }
     ensures system { world.new.system ≡ world.old.system }
     ensures cause { HasPlayCause (O.faults out.old) (O.faults out.new) result }
 {
@@ -84,7 +96,7 @@ pub fn play_lines<O: Sink>(
     let mut number = 1;
     while !rest.is_empty() {
         let (line, tail) = first_line(rest);
-        let Some(event) = numbered_event(number, line, names) else {
+        let Some(event) = numbered_event(alloc, number, line, names)? else {
             return Err(Stop::BadLine { number });
         };
         world.serve(alloc, names, &event, page)?;
@@ -97,16 +109,25 @@ pub fn play_lines<O: Sink>(
 
 /// The event of a line of the schedule, counted from 1; none where the line is that of no event, or of
 /// one event too many.
-fn numbered_event(number: u64, line: &[u8], names: &Names) -> Option<Event>
+fn numbered_event(
+    alloc: Global,
+    number: u64,
+    line: &[u8],
+    names: &Names,
+) -> Result<Option<Event>, NoMemory>
     requires apart { AreNames names.now.processes }
     requires few { length names.now.processes < 2 ^ 32 }
-    ensures event { MatchOption result ((most_events < number) ⊎ IsOfNoEvent names.now.processes line.now) (λ e. SpellsEvent names.now.processes line.now e) }
-    ensures within { OnSome result (number ≤ most_events) }
+    ensures event { IfOk result (λ found. MatchOption found ((most_events < number) ⊎ IsOfNoEvent names.now.processes line.now) (λ e. IsLineOf names.now.processes line.now e)) }
+    ensures within { IfOk result (λ found. OnSome found (number ≤ most_events)) }
 {
     if number > MOST_EVENTS {
-        return None;
+        return Ok(None);
     }
-    read_event(line, names)
+    match read_event(alloc, line, names) {
+        Ok(event) => Ok(Some(event)),
+        Err(LineFault::BadLine) => Ok(None),
+        Err(LineFault::NoMemory) => Err(NoMemory),
+    }
 }
 
 /// Puts the page where it has some kilobytes.

@@ -2,24 +2,24 @@
 
 ghost use Rattle.std.specs.Prelude.{◌≡◌, ◌++◌, IfOk, string_bytes};
 ghost use Rattle.tap_base.specs.Wires.{wire_of};
-ghost use Rattle.abstract_run.specs.CellCount.{cells_in};
 ghost use Rattle.abstract_run.specs.Fits.{InputsFit};
 ghost use Rattle.abstract_run.specs.Opening.{opening_state};
-ghost use Rattle.abstract_run.specs.Semantics.{semantics_of};
+ghost use Rattle.tap_exec.specs.Semantics.{semantics_of};
 ghost use Rattle.exact_choice.specs.Choice.{opening_cursors};
+ghost use Rattle.exact_choice.specs.Rejects.{opening_errors};
 ghost use Rattle.run_text.specs.Names.{AreNames};
 ghost use Rattle.run_text.specs.TraceText.{last_lines, lines_text, names_in};
 ghost use Rattle.tapc_core.specs.Causes.{HasSinkCause};
-ghost use Rattle.tapc_core.specs.Lines.{bad_line, no_memory_line};
+ghost use Rattle.tapc_core.specs.Lines.{bad_line, full_line, no_memory_line};
 ghost use Rattle.tapc_core.specs.Run.{Task};
 ghost use Rattle.tapc_core.specs.Written.{Writes};
 ghost use Rattle.tapc_core.specs.commands.World.{IsPlayed, OfWorld};
 ghost use Rattle.tapc_core.specs.inner.Closing.{ClosesOr};
 ghost use Rattle.tapc_core.specs.inner.Playing.{AreOf};
 ghost use Rattle.abstract_run.specs.Runnable.{IsRunnable};
-ghost use Rattle.world_run.specs.Layouts.{HasLayout, IsLayoutOf};
+ghost use Rattle.world_run.specs.Layouts.{HasLayout};
 ghost use Rattle.world_run.specs.Names.{AreNamesOf};
-ghost use Rattle.world_run.specs.Served.{IsSteady};
+ghost use Rattle.world_run.specs.Served.{GoesOn};
 
 use crate::closing::{close, close_behind};
 use crate::lines::{Stop, play_lines};
@@ -66,14 +66,12 @@ fn play_world<O: Sink>(
     schedule: &[u8],
     out: &mut O,
 ) -> Status
-    requires runnable { IsRunnable world.old.system }
-    requires layout { IsLayoutOf world.old.system world.old.layout }
-    requires steady { IsSteady (semantics_of world.old.system) world.old.state }
-    requires no_cells { cells_in world.old.state ≡ 0 }
-    requires opened { world.old.turnstiles ≡ opening_cursors (semantics_of world.old.system) }
+    requires goes_on { GoesOn world.old }
+    requires opened { world.old.course.turnstiles ≡ opening_cursors (semantics_of world.old.system) }
+    requires no_errors { world.old.course.errors ≡ opening_errors (semantics_of world.old.system) }
     requires names { AreNamesOf (semantics_of world.old.system) names.now }
     requires apart { AreNames (names_in (semantics_of world.old.system)) }
-    ensures writes { (task : Task) (inputs : Inputs) → world.old.state ≡ opening_state (semantics_of world.old.system) inputs → AreOf world.old.system inputs schedule.now task → Writes (OfWorld task) result (O.written out.old) (O.written out.new) }
+    ensures writes { (task : Task) (inputs : Inputs) → world.old.course.state ≡ opening_state (semantics_of world.old.system) inputs → AreOf world.old.system inputs schedule.now task → Writes (OfWorld task) result (O.written out.old) (O.written out.new) }
     ensures answer { IsPlayed result }
     ensures cause { HasSinkCause result (O.faults out.old) (O.faults out.new) }
 {
@@ -81,6 +79,7 @@ fn play_world<O: Sink>(
     match play_lines(alloc, world, names, schedule, &mut page, out) {
         Ok(()) => close_trace(alloc, world, names, page.as_slice(), out),
         Err(Stop::BadLine { number }) => close_bad(alloc, number, page.as_slice(), out),
+        Err(Stop::Full { cells }) => close_full(alloc, cells, page.as_slice(), out),
         Err(Stop::NoMemory) => close_behind(page.as_slice(), NO_MEMORY, out, Status::NoMemory),
         Err(Stop::Failed) => Status::WriteFault,
     }
@@ -95,7 +94,7 @@ fn close_trace<O: Sink>(
     out: &mut O,
 ) -> Status
     requires names { AreNamesOf (semantics_of world.now.system) names.now }
-    ensures closes { ClosesOr Status.Done (page.now ++ lines_text (last_lines (semantics_of world.now.system) world.now.state)) (page.now ++ no_memory_line) (O.written out.old) (O.written out.new) result }
+    ensures closes { ClosesOr Status.Done (page.now ++ lines_text (last_lines (semantics_of world.now.system) world.now.course.state)) (page.now ++ no_memory_line) (O.written out.old) (O.written out.new) result }
     ensures answer { IsPlayed result }
     ensures cause { HasSinkCause result (O.faults out.old) (O.faults out.new) }
 {
@@ -115,6 +114,24 @@ fn close_bad<O: Sink>(alloc: Global, number: u64, page: &[u8], out: &mut O) -> S
         Ok(line) => close_behind(page, line.as_bytes(), out, Status::BadSchedule),
         Err(NoMemory) => close_behind(page, NO_MEMORY, out, Status::NoMemory),
     }
+}
+
+/// Puts the page, and how many cells stood in the channels where an event was reached with too many.
+fn close_full<O: Sink>(alloc: Global, cells: u32, page: &[u8], out: &mut O) -> Status
+    ensures closes { ClosesOr Status.WorldFull (page.now ++ full_line cells) (page.now ++ no_memory_line) (O.written out.old) (O.written out.new) result }
+    ensures answer { IsPlayed result }
+    ensures cause { HasSinkCause result (O.faults out.old) (O.faults out.new) }
+{
+    match full_line(alloc, cells) {
+        Ok(line) => close_behind(page, line.as_bytes(), out, Status::WorldFull),
+        Err(NoMemory) => close_behind(page, NO_MEMORY, out, Status::NoMemory),
+    }
+}
+
+fn full_line(alloc: Global, cells: u32) -> Result<String, NoMemory>
+    ensures { IfOk result (λ line. string_bytes line ≡ full_line cells) }
+{
+    Ok(format!(in alloc; "full {cells}\n")?)
 }
 
 fn bad_line(alloc: Global, number: u64) -> Result<String, NoMemory>

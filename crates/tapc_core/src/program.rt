@@ -24,7 +24,7 @@ use crate::play::{NO_MEMORY, play};
 use crate::start::{Start, StartFault, begin};
 use crate::status::Status;
 use crate::words::{Command, command_of, usage_line};
-use link_trait::{Sink, Store};
+use link_trait::{Clock, Link, Sink, Store};
 use std::alloc::Global;
 use tap_base::{NoMemory, Text};
 use tap_front::{Offence, acceptance, refused_line};
@@ -32,8 +32,16 @@ use tap_printer::print;
 use tap_settings::{SettingRefusal, refused_setting_line};
 use width_check::Checked;
 
-/// What the program does: it takes the words of the command line, and answers the status.
-pub fn run<S: Store, O: Sink>(alloc: Global, words: &[Text], store: &mut S, out: &mut O) -> Status
+/// What the program does: it takes the words of the command line, and answers the status. No command
+/// calls the link or the clock.
+pub fn run<S: Store, O: Sink, L: Link, C: Clock>(
+    alloc: Global,
+    words: &[Text],
+    store: &mut S,
+    out: &mut O,
+    link: &mut L,
+    clock: &mut C,
+) -> Status
     // World puts the trace of a run that answers the whole schedule.
     ensures done { (system schedule : List ℕ) (settings : List Assignment) → asked.command_of words.now ≡ Some (asked.world system schedule settings) → result ≡ Status.Done → Puts (IsTrace (task_of system schedule settings (S.contents store.old))) (O.written out.old) (O.written out.new) }
     // Each command answers only what its work can give,
@@ -48,6 +56,8 @@ pub fn run<S: Store, O: Sink>(alloc: Global, words: &[Text], store: &mut S, out:
     ensures sink_cause { HasSinkCause result (O.faults out.old) (O.faults out.new) }
     // Where no count rose, what the files hold decides the status, but for want of memory.
     ensures sure { (status : Status) → (command_for (asked.command_of words.now)).is_sure (S.contents store.old) status → IsSure status (S.faults store.old) (S.faults store.new) (O.faults out.old) (O.faults out.new) result }
+    ensures link { link.new ≡ link.old }
+    ensures clock { clock.new ≡ clock.old }
 {
     obey(alloc, words, store, out)
 }

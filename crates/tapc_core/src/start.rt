@@ -3,7 +3,7 @@
 ghost use Rattle.std.specs.Prelude.{◌≡◌, List, Err, IfOk, IfSome, OnOk};
 ghost use Rattle.tap_base.specs.Wires.{wire_of};
 ghost use Rattle.abstract_run.specs.Fits.{InputsFit};
-ghost use Rattle.abstract_run.specs.Semantics.{semantics_of};
+ghost use Rattle.tap_exec.specs.Semantics.{semantics_of};
 ghost use Rattle.run_text.specs.Names.{AreNames};
 ghost use Rattle.run_text.specs.TraceText.{names_in};
 ghost use Rattle.tap_front.specs.Runs.{OffendsRun};

@@ -9,7 +9,7 @@ use Rattle.abstract_run.specs.declared.label.Label.{Label}
 use Rattle.tap_exec.specs.declared.running.TimerState.{TimerState}
 use Rattle.tap_exec.specs.declared.running.TimerState.TheVariants as timer
 use Rattle.timed_runs.specs.Delays.{BodiesMakeNoneDue, DelayLaw, SystemsKeepDelays, timer_of}
-use Rattle.abstract_run.specs.Semantics.{Semantics, ActionSemantics, ProcessSemantics, action_semantics, messages_of, process_semantics, semantics_of}
+use Rattle.tap_exec.specs.Semantics.{Semantics, ActionSemantics, ProcessSemantics, action_semantics, messages_of, process_semantics, semantics_of}
 use Rattle.abstract_run.specs.Opening.{opening_state}
 use Rattle.timed_runs.proofs.Known.{keeps}
 use Rattle.timed_runs.proofs.Since.{Known}

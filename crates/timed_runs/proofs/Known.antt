@@ -10,7 +10,7 @@ use Rattle.tap_exec.specs.declared.running.TimerState.{TimerState}
 use Rattle.tap_exec.specs.declared.running.TimerState.TheVariants as timer
 use Rattle.timed_runs.specs.Delays.{BodiesMakeNoneDue, IsTimeout, KeepsDelay, timer_of}
 use Rattle.abstract_run.specs.Enabled.{guard_holds, is_due, is_ready}
-use Rattle.abstract_run.specs.Semantics.{Semantics, ActionSemantics, timeout}
+use Rattle.tap_exec.specs.Semantics.{Semantics, ActionSemantics, timeout}
 use Rattle.tap_base.specs.Option.{◌>>=◌, is_yes}
 use Rattle.abstract_run.specs.Run.{state_after}
 use Rattle.abstract_run.specs.Step.{After, step}

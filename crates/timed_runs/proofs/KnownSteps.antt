@@ -9,7 +9,7 @@ use Rattle.abstract_run.specs.declared.state.State.{State}
 use Rattle.tap_exec.specs.declared.running.TimerState.{TimerState}
 use Rattle.tap_exec.specs.declared.running.TimerState.TheVariants as timer
 use Rattle.timed_runs.specs.Delays.{BodiesMakeNoneDue, NoneIsMadeDue, timer_before, timer_of}
-use Rattle.abstract_run.specs.Semantics.{Semantics, GuardSemantics, local, receive, timeout}
+use Rattle.tap_exec.specs.Semantics.{Semantics, GuardSemantics, local, receive, timeout}
 use Rattle.tap_base.specs.Option.{◌>>=◌}
 use Rattle.abstract_run.specs.Step.{After, step, time_after, timer_after, timers_at}
 use Rattle.timed_runs.proofs.TimedSteps.{ActLeaves, TickLeaves, Untouched, IsOther, act_step, other_step, set_here, tick_step}

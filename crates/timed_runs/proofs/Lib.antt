@@ -1,4 +1,4 @@
-mod DelaysKept
+pub mod DelaysKept
 mod Known
 mod KnownSteps
 pub mod Prefixes

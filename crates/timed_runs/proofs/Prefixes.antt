@@ -4,7 +4,7 @@ use Rattle.std.proofs.lemmas.Option.{option_and_then_some}
 use Rattle.abstract_run.specs.declared.label.Label.{Label}
 use Rattle.tap_exec.specs.declared.running.Outgoing.{Outgoing}
 use Rattle.abstract_run.specs.declared.state.State.{State}
-use Rattle.abstract_run.specs.Semantics.{Semantics}
+use Rattle.tap_exec.specs.Semantics.{Semantics}
 use Rattle.tap_base.specs.Option.{◌>>=◌}
 use Rattle.abstract_run.specs.Run.{state_after}
 use Rattle.abstract_run.specs.Step.{After, step}

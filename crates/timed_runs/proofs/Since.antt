@@ -5,7 +5,7 @@ use Rattle.abstract_run.specs.declared.state.State.{State}
 use Rattle.tap_exec.specs.declared.running.TimerState.{TimerState}
 use Rattle.tap_exec.specs.declared.running.TimerState.TheVariants as timer
 use Rattle.timed_runs.specs.Delays.{IsReading, LeavesArmed, timer_before}
-use Rattle.abstract_run.specs.Semantics.{Semantics}
+use Rattle.tap_exec.specs.Semantics.{Semantics}
 
 -- a place before the next one is this one or stands before it
 pub here_or_before : (h n : ℕ) → h < n + 1 → (h ≡ n) ⊎ (h < n)

@@ -1,5 +1,5 @@
 -- What a step does to the timers and the time of a process.
-use Rattle.std.proofs.Common.{◌≡◌, ◌≢◌, ℕ, zero, suc, ℤ, Bool, true, false, List, [], ◌∷◌, map, refl, ap, subst, ◌∙◌, slice_get, slice_set, Option, Some, None, if◌then◌else◌, is_none}
+use Rattle.std.proofs.Common.{◌≡◌, ◌≢◌, ℕ, zero, suc, ℤ, Bool, true, false, List, [], ◌∷◌, map, refl, ap, subst, ◌∙◌, slice_get, slice_set, Option, Some, None, ◌&&◌}
 use Rattle.std.specs.Option.{option_map}
 use Rattle.std.proofs.lemmas.Option.{option_and_then_some, cond_some}
 use Rattle.abstract_run.specs.declared.label.Label.{Label}
@@ -8,14 +8,17 @@ use Rattle.tap_exec.specs.declared.running.Running.{Running}
 use Rattle.tap_exec.specs.declared.running.Outgoing.{Outgoing}
 use Rattle.abstract_run.specs.declared.state.State.{State}
 use Rattle.tap_exec.specs.declared.running.TimerState.{TimerState}
-use Rattle.tap_base.specs.Faults.{lost_at}
-use Rattle.abstract_run.specs.Channels.{on_channel}
+use Rattle.tap_base.specs.Faults.{changed_to, copied_at, lost_at, moved_to}
+use Rattle.byte_meaning.specs.Reading.{meaning}
+use Rattle.abstract_run.specs.declared.state.Falling.{Falling}
+use Rattle.abstract_run.specs.Channels.{appended, on_flight, rejected_at, where_room}
 use Rattle.abstract_run.specs.Enabled.{is_ready}
-use Rattle.abstract_run.specs.Semantics.{Semantics, ActionSemantics, action_at}
-use Rattle.tap_base.specs.Option.{provided}
-use Rattle.abstract_run.specs.Step.{After, acted, flight_changed, is_empty, is_idle, mark_raised, received, settled_step, silent, step, ticked, time_after, timer_after, timers_at, with_channels}
+use Rattle.tap_exec.specs.Semantics.{Semantics, ActionSemantics, action_at}
+use Rattle.tap_base.specs.Option.{◌>>=◌, is_yes, provided}
+use Rattle.abstract_run.specs.Step.{After, acted, channel_changed, cut_off, fallen, flight_changed, is_empty, is_flooded, is_idle, is_live, is_zero, mark_raised, put_down, received, rejected, settled_step, silent, step, step_by, stopped, ticked, time_after, timer_after, timers_at}
 use Rattle.abstract_run.proofs.Acted.{acted_by}
 use Rattle.abstract_run.proofs.Begins.{start}
+use Rattle.abstract_run.proofs.Kept.{fallen_by}
 use Rattle.abstract_run.proofs.Ticked.{read_by}
 
 -- ---- one place of a list
@@ -143,29 +146,60 @@ other_untouched semantics u v p (label.Act q a choices) sends other e =
 other_untouched semantics u v p (label.Idle q) sends other e =
     let same = (cond_some (is_idle semantics u q) u v (silent_some (provided (is_idle semantics u q) u) v sends e)).1 in
     same_untouched p u v (subst (λ w. SameTimes u w) same (refl, refl))
+other_untouched semantics u v p (label.Flood q) sends other e =
+    let same = (cond_some (is_flooded semantics u q) u v (silent_some (provided (is_flooded semantics u q) u) v sends e)).1 in
+    same_untouched p u v (subst (λ w. SameTimes u w) same (refl, refl))
+other_untouched semantics u v p (label.Reject q r i) sends other e =
+    same_untouched p u v (by_test (is_live u r) (silent_some (rejected u q r i) v sends e)) where
+      by_test : (b : Bool) → (provided b u >>= λ live. channel_changed (rejected_at i) live q r) ≡ Some v → SameTimes u v
+      by_test true h = changed _ u v _ (λ channels. (refl, refl)) h
+      by_test false h = cc
 other_untouched semantics u v p (label.Arrive q r) sends other e =
-    same_untouched p u v (changed _ u v _ (λ channels. (refl, refl)) (silent_some (with_channels u (on_channel q r mark_raised u.channels)) v sends e))
+    same_untouched p u v (changed _ u v _ (λ channels. (refl, refl)) (silent_some (channel_changed mark_raised u q r) v sends e))
 other_untouched semantics u v p (label.Lose q r i) sends other e =
     same_untouched p u v (changed _ u v _ (λ channels. (refl, refl)) (silent_some (flight_changed (lost_at i) u q r) v sends e))
+other_untouched semantics u v p (label.Copy q r i) sends other e =
+    same_untouched p u v (changed _ u v _ (λ channels. (refl, refl)) (silent_some (channel_changed (where_room (on_flight (copied_at i))) u q r) v sends e))
+other_untouched semantics u v p (label.Move q r i j) sends other e =
+    same_untouched p u v (changed _ u v _ (λ channels. (refl, refl)) (silent_some (flight_changed (moved_to i j) u q r) v sends e))
+other_untouched semantics u v p (label.Damage q r i bytes) sends other e =
+    same_untouched p u v (changed _ u v _ (λ channels. (refl, refl)) (silent_some (flight_changed (changed_to i (meaning semantics q r bytes)) u q r) v sends e))
+other_untouched semantics u v p (label.Forge q r bytes) sends other e =
+    same_untouched p u v (changed _ u v _ (λ channels. (refl, refl)) (silent_some (channel_changed (appended (meaning semantics q r bytes)) u q r) v sends e))
+other_untouched semantics u v p (label.Cut q n) sends other e =
+    same_untouched p u v (changed _ u v _ (λ old. (refl, refl)) (silent_some (cut_off u q n) v sends e))
+other_untouched semantics u v p (label.Stop q rs) sends other e =
+    let same = (cond_some (is_live u q && is_zero (slice_get u.cuts q) && is_empty rs) (put_down u q) v (silent_some (stopped u q rs) v sends e)).1 in
+    same_untouched p u v (subst (λ w. SameTimes u w) same (refl, refl))
+other_untouched semantics u v p (label.Down q) sends other e =
+    let same = (cond_some (is_yes (slice_get u.down q)) u v (silent_some (provided (is_yes (slice_get u.down q)) u) v sends e)).1 in
+    same_untouched p u v (subst (λ w. SameTimes u w) same (refl, refl))
 other_untouched semantics u v p label.Void sends other e =
     let same : u ≡ v = let it = silent_some (Some u) v sends e in cc in
     same_untouched p u v (subst (λ w. SameTimes u w) same (refl, refl))
-other_untouched semantics u v p _ sends other e = cc
 
--- a step is one while nothing is falling
-settled : (semantics : Semantics) (u v : State) (l : Label) (sends : List Outgoing) → ◌≡◌ {A = Option After} (step semantics u l) (Some (v, sends)) → ◌≡◌ {A = Option After} (settled_step semantics u l) (Some (v, sends))
-settled semantics u v l sends e = by_test (is_none u.falling) e where
-  by_test : (b : Bool) → ◌≡◌ {A = Option After} (if b then settled_step semantics u l else None) (Some (v, sends)) → ◌≡◌ {A = Option After} (settled_step semantics u l) (Some (v, sends))
-  by_test true h = h
-  by_test false h = cc
+-- the stop of a process whose cut fell
+fallen_untouched : (u v : State) (p q : ℕ) (f : Falling) (rs : List ℕ) (sends : List Outgoing) → ◌≡◌ {A = Option After} (silent (fallen u f q rs)) (Some (v, sends)) → Untouched p u v
+fallen_untouched u v p q f rs sends e =
+    let x = fallen_by u v f q rs (silent_some (fallen u f q rs) v sends e) in same_untouched p u v (ap (λ (w : State). w.timers) x.next, ap (λ (w : State). w.times) x.next)
 
 -- ---- the three kinds of steps
 
 pub tick_step : (semantics : Semantics) (u v : State) (p c : ℕ) (sends : List Outgoing) → ◌≡◌ {A = Option After} (step semantics u (label.Tick p c)) (Some (v, sends)) → TickLeaves u p c v
-tick_step semantics u v p c sends e = tick_leaves u v p c (silent_some (ticked u p c) v sends (settled semantics u v (label.Tick p c) sends e))
+tick_step semantics u v p c sends e = by u.falling e where
+  by : (o : Option Falling) → ◌≡◌ {A = Option After} (step_by semantics u (label.Tick p c) o) (Some (v, sends)) → TickLeaves u p c v
+  by None h = tick_leaves u v p c (silent_some (ticked u p c) v sends h)
+  by (Some f) h = cc
 
 pub act_step : (semantics : Semantics) (u v : State) (p a : ℕ) (choices : List ℤ) (sends : List Outgoing) → ◌≡◌ {A = Option After} (step semantics u (label.Act p a choices)) (Some (v, sends)) → ActLeaves semantics u p a v
-act_step semantics u v p a choices sends e = act_leaves semantics u v p a choices sends (settled semantics u v (label.Act p a choices) sends e)
+act_step semantics u v p a choices sends e = by u.falling e where
+  by : (o : Option Falling) → ◌≡◌ {A = Option After} (step_by semantics u (label.Act p a choices) o) (Some (v, sends)) → ActLeaves semantics u p a v
+  by None h = act_leaves semantics u v p a choices sends h
+  by (Some f) h = cc
 
 pub other_step : (semantics : Semantics) (u v : State) (p : ℕ) (l : Label) (sends : List Outgoing) → IsOther p l → ◌≡◌ {A = Option After} (step semantics u l) (Some (v, sends)) → Untouched p u v
-other_step semantics u v p l sends other e = other_untouched semantics u v p l sends other (settled semantics u v l sends e)
+other_step semantics u v p l sends other e = by u.falling l other e where
+  by : (o : Option Falling) (l : Label) → IsOther p l → ◌≡◌ {A = Option After} (step_by semantics u l o) (Some (v, sends)) → Untouched p u v
+  by None l other h = other_untouched semantics u v p l sends other h
+  by (Some f) (label.Stop q rs) other h = fallen_untouched u v p q f rs sends h
+  by (Some f) _ other h = cc

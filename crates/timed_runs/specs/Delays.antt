@@ -8,7 +8,7 @@ use Rattle.tap_exec.specs.declared.running.Running.{Running}
 use Rattle.abstract_run.specs.declared.state.State.{State}
 use Rattle.tap_exec.specs.declared.running.TimerState.{TimerState}
 use Rattle.tap_exec.specs.declared.running.TimerState.TheVariants as timer
-use Rattle.abstract_run.specs.Semantics.{Semantics, ActionSemantics, action_at, semantics_of, timeout}
+use Rattle.tap_exec.specs.Semantics.{Semantics, ActionSemantics, action_at, semantics_of, timeout}
 use Rattle.tap_base.specs.Option.{◌>>=◌}
 use Rattle.abstract_run.specs.Run.{state_after}
 use Rattle.abstract_run.specs.Opening.{opening_state}

@@ -4,7 +4,7 @@ use Rattle.tap_base.specs.declared.wire.WireField.{WireField}
 use Rattle.tap_base.specs.Interval.{IsIn, field_range}
 use Rattle.tap_base.specs.Lists.{Each}
 use Rattle.tap_base.specs.Ranges.{AreIn}
-use Rattle.abstract_run.specs.Messages.{AreFields}
+use Rattle.byte_meaning.specs.Messages.{AreFields}
 
 pub each_by_place : {A : Type 0} (P : A → Type 0) (xs : List A) → ((k : ℕ) (d : A) → k < length xs → P (get_or xs k d)) → Each P xs
 each_by_place P [] h = tt

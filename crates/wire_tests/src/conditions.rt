@@ -3,7 +3,7 @@
 ghost use Rattle.std.specs.Prelude.{◌≤◌, ◌<◌, ◌^◌, ◌≤ℤ◌, ◌<ℤ◌, MatchBool, length, pos};
 ghost use Rattle.tap_base.specs.Interval.{IsIn, field_range};
 ghost use Rattle.tap_base.specs.Lists.{Each};
-ghost use Rattle.abstract_run.specs.Messages.{AreFields};
+ghost use Rattle.byte_meaning.specs.Messages.{AreFields};
 ghost use Rattle.message_layout.specs.Wires.{IsField, IsWire};
 
 use tap_base::{List, Receive, Wire, WireField};

@@ -1,23 +1,22 @@
 -- The cursors of a system, and what a cursor picks among the actions of a process.
-use Rattle.std.proofs.Common.{◌≡◌, ◌≢◌, ◌∙◌, ◌<◌, ◌+◌, ◌⊎◌, inl, inr, ◌^◌, ℕ, zero, suc, ℤ, Bool, true, false, List, [], ◌∷◌, ◌++◌, map, length, length-append, slice_get, slice_set, Option, Some, None, IfSome, refl, ap, sym, subst, arith}
+use Rattle.std.proofs.Common.{◌≡◌, ◌≢◌, ◌∙◌, ◌<◌, ◌+◌, ◌⊎◌, inl, inr, ℕ, zero, suc, Bool, true, false, List, [], ◌∷◌, ◌++◌, map, length, length-append, slice_get, slice_set, Option, Some, None, IfSome, refl, ap, sym, subst, arith}
 use Rattle.std.specs.Option.{option_map}
 use Rattle.std.proofs.lemmas.List.{length-map}
-use Rattle.std.proofs.lemmas.Option.{slice_get_within}
+use Rattle.std.proofs.lemmas.Option.{slice_get-map, slice_get_within}
 use Rattle.tap_base.specs.Option.{◌>>=◌, is_yes}
 use Rattle.tap_base.specs.declared.system.Process.{Process}
 use Rattle.tap_base.specs.declared.system.System.{System}
 use Rattle.tap_base.specs.declared.wire.WireField.{WireField}
 use Rattle.tap_base.proofs.ListFacts.{element_alike, element_at, set_same}
-use Rattle.abstract_run.specs.declared.label.Label.{Label}
 use Rattle.abstract_run.specs.declared.label.Label.TheVariants as label
 use Rattle.abstract_run.specs.declared.state.State.{State}
 use Rattle.abstract_run.specs.Enabled.{is_enabled, is_ready}
-use Rattle.abstract_run.specs.Semantics.{ActionSemantics, ProcessSemantics, Semantics, action_at, messages_of, process_semantics, semantics_of}
+use Rattle.tap_exec.specs.Semantics.{ActionSemantics, ProcessSemantics, Semantics, action_at, messages_of, process_semantics, semantics_of}
 use Rattle.guard_scheduler.specs.Cursor.{Cursor}
 use Rattle.guard_scheduler.specs.Turnstile.{IsTrue, TakesNext}
 use Rattle.exact_choice.specs.Choice.{AreCursorsOf, opening_cursors}
-use Rattle.world_run.specs.inner.Serving.{AreEnabled, IsNext, IsNextOf, PicksAt, act, action_count, idle}
-use Rattle.world_run.proofs.Turns.{as_many, said_at}
+use Rattle.exact_choice.proofs.Cursors.{cursors_kept}
+use Rattle.world_run.specs.inner.Serving.{AreEnabled, Chose, PicksAt, action_count}
 
 -- ---- a system in its opening state
 
@@ -32,6 +31,14 @@ opening_of messages (p ∷ ps) =
 
 pub opening_is : (system : System) → map first_cursor system.processes ≡ opening_cursors (semantics_of system)
 opening_is system = opening_of (messages_of system) system.processes
+
+-- what a system says of a process that is there
+pub said_at : (system : System) (p : ℕ) (process : Process) → slice_get system.processes p ≡ Some process
+    → slice_get (semantics_of system).processes p ≡ Some (process_semantics (messages_of system) process)
+said_at system p process h = slice_get-map (process_semantics (messages_of system)) system.processes p ∙ ap (option_map (process_semantics (messages_of system))) h
+
+as_many : (system : System) (process : Process) → length (process_semantics (messages_of system) process).actions ≡ length process.actions
+as_many system process = length-map process.actions _
 
 -- ---- which actions are enabled
 
@@ -86,16 +93,17 @@ module _ (m : Semantics) (s : State) (p actions : ℕ) (enabled : List Bool) (to
   not_true true h = absurd (h refl)
   not_true false h = refl
 
-  pub picked_next : (old new : List Cursor) (from : Cursor) (a : ℕ) → a < 2 ^ 32 → slice_get old p ≡ Some from → PicksAt old p enabled (Some a) new → IsNext m s p actions old new (label.Act p a [])
-  picked_next old new from a small stood x =
-      let y = x from stood in
-      act small (record { from = from; stood = stood; to = y.0; next = next_act from y.0 a y.1; moved = y.2 })
+  picked : (old new : List Cursor) (from : Cursor) (a : ℕ) → slice_get old p ≡ Some from → PicksAt old p enabled (Some a) new → Chose m s p old (Some a) new
+  picked old new from a stood x = let y = x from stood in record { from = from; stood = stood; to = y.0; next = next_act from y.0 a y.1; moved = y.2 }
 
-  pub none_next : (old new : List Cursor) (from : Cursor) → slice_get old p ≡ Some from → PicksAt old p enabled None new → IsNext m s p actions old new (label.Idle p)
-  none_next old new from stood x =
+  none_picked : (old new : List Cursor) (from : Cursor) → slice_get old p ≡ Some from → PicksAt old p enabled None new → Chose m s p old None new
+  none_picked old new from stood x =
       let y = x from stood in
-      idle (λ b lt. not_true (is_enabled m s p b) (λ h. y.1.0 b (is_true b h)))
-      (y.2 ∙ ap (λ (c : Cursor). slice_set old p c) y.1.1 ∙ set_same old p from stood)
+      (λ b. not_true (is_enabled m s p b) (λ h. y.1.0 b (is_true b h)), y.2 ∙ ap (λ (c : Cursor). slice_set old p c) y.1.1 ∙ set_same old p from stood)
+
+  pub chose : (old new : List Cursor) (from : Cursor) (o : Option ℕ) → slice_get old p ≡ Some from → PicksAt old p enabled o new → Chose m s p old o new
+  chose old new from None stood x = none_picked old new from stood x
+  chose old new from (Some a) stood x = picked old new from a stood x
 
 -- ---- a process of a system
 
@@ -132,22 +140,14 @@ counted_at system s p cursors enabled go there told c is =
     let same : h.from ≡ c = let both : Some h.from ≡ Some c = sym h.stood ∙ is in cc in
     h.told.counted ∙ sym h.places ∙ ap (λ (d : Cursor). d.places) same
 
--- what comes next, by the number of actions
-next_of : (system : System) (s : State) (p : ℕ) (old new : List Cursor) (l : Label) (process : Process) → slice_get system.processes p ≡ Some process
-    → IsNext (semantics_of system) s p (length process.actions) old new l → IsNextOf system (semantics_of system) s p old new l
-next_of system s p old new l process e h = subst (λ o. IfSome (option_map (λ (r : Process). length r.actions) o) (λ n. IsNext (semantics_of system) s p n old new l)) (sym e) h
-
-pub act_next : (system : System) (s : State) (p : ℕ) (old new : List Cursor) (enabled : List Bool) (a : ℕ) (choices : List ℤ) → AreCursorsOf (semantics_of system) old → p < length system.processes
-    → AreTold system s p enabled → a < 2 ^ 32 → choices ≡ [] → PicksAt old p enabled (Some a) new → IsNextOf system (semantics_of system) s p old new (label.Act p a choices)
-act_next system s p old new enabled a choices go there told small none x =
+-- what the turnstile of a process picks is its next enabled action
+pub chose_at : (system : System) (s : State) (p : ℕ) (old new : List Cursor) (enabled : List Bool) (o : Option ℕ) → AreCursorsOf (semantics_of system) old → p < length system.processes
+    → AreTold system s p enabled → PicksAt old p enabled o new → Chose (semantics_of system) s p old o new
+chose_at system s p old new enabled o go there told x =
     let h = here system s p old enabled go there told in
-    let m = semantics_of system in
-    next_of system s p old new (label.Act p a choices) h.process h.is (subst (λ cs. IsNext m s p (length h.process.actions) old new (label.Act p a cs)) (sym none)
-    (picked_next m s p (length h.process.actions) enabled h.told (process_semantics (messages_of system) h.process) (said_at system p h.process h.is) (as_many system h.process) old new h.from a small h.stood x))
+    chose (semantics_of system) s p (length h.process.actions) enabled h.told (process_semantics (messages_of system) h.process) (said_at system p h.process h.is) (as_many system h.process) old new h.from o h.stood x
 
-pub idle_next : (system : System) (s : State) (p : ℕ) (old new : List Cursor) (enabled : List Bool) → AreCursorsOf (semantics_of system) old → p < length system.processes → AreTold system s p enabled
-    → PicksAt old p enabled None new → IsNextOf system (semantics_of system) s p old new (label.Idle p)
-idle_next system s p old new enabled go there told x =
-    let h = here system s p old enabled go there told in
-    next_of system s p old new (label.Idle p) h.process h.is
-    (none_next (semantics_of system) s p (length h.process.actions) enabled h.told (process_semantics (messages_of system) h.process) (said_at system p h.process h.is) (as_many system h.process) old new h.from h.stood x)
+-- and so the cursors are still those of the system
+pub cursors_chosen : (m : Semantics) (s : State) (p : ℕ) (old new : List Cursor) (o : Option ℕ) → Chose m s p old o new → AreCursorsOf m old → AreCursorsOf m new
+cursors_chosen m s p old new None x go = subst (AreCursorsOf m) (sym x.1) go
+cursors_chosen m s p old new (Some a) x go = cursors_kept m ((s, label.Act p a []) ∷ []) old new (new, x, refl) go

@@ -1,11 +1,11 @@
 -- Lines of labels and of datagrams, one behind the other.
-use Rattle.std.proofs.Common.{◌≡◌, ◌<◌, ◌+◌, ◌∙◌, ℕ, List, [], ◌∷◌, ◌++◌, map, length, take, get_or, Option, Some, ap, sym, subst, append_assoc}
+use Rattle.std.proofs.Common.{◌≡◌, ◌<◌, ◌+◌, ◌∙◌, ℕ, List, [], ◌∷◌, ◌++◌, map, length, take, get_or, Option, Some, refl, ap, sym, subst, append_assoc, append-nil}
 use Rattle.std.proofs.lemmas.Grind.{flat_map-append}
 use Rattle.std.proofs.lemmas.List.{map-append, take_more}
 use Rattle.tap_base.specs.Option.{each}
 use Rattle.tap_exec.specs.declared.running.Outgoing.{Outgoing}
 use Rattle.abstract_run.specs.Run.{state_after}
-use Rattle.abstract_run.specs.Semantics.{Semantics}
+use Rattle.tap_exec.specs.Semantics.{Semantics}
 use Rattle.abstract_run.specs.Step.{step}
 use Rattle.abstract_run.specs.declared.label.Label.{Label}
 use Rattle.abstract_run.specs.declared.state.State.{State}
@@ -52,23 +52,27 @@ sent_more semantics sends k o before middle after there is w v =
 
 -- ---- labels
 
-wrote_by : (semantics : Semantics) (s t : State) (l : Label) (sends : List Outgoing) (ds : List Datagram) (before middle after lines : List ℕ) → step semantics s l ≡ Some (t, sends) → went_out (t, sends) ≡ sends
-    → each (datagram semantics) sends ≡ Some ds → lines_text (map (sent_line (names_in semantics)) ds) ≡ lines
+wrote_by : (semantics : Semantics) (s t : State) (l : Label) (sends : List Outgoing) (ds : List Datagram) (before middle after lines : List ℕ) → step semantics s l ≡ Some (t, sends)
+    → each (datagram semantics) (went_out (t, sends)) ≡ Some ds → lines_text (map (sent_line (names_in semantics)) ds) ≡ lines
     → middle ≡ before ++ (label_line (names_in semantics) l ++ 10 ∷ []) → after ≡ middle ++ lines → WroteLines semantics s (l ∷ []) before after
-wrote_by semantics s t l sends ds before middle after lines ran out told is first then =
+wrote_by semantics s t l sends ds before middle after lines ran told is first then =
     let names = names_in semantics in
     record {
       lines = label_line names l ∷ map (sent_line names) ds;
-      shown = one_label semantics s l (t, sends) ds ran (ap (each (datagram semantics)) out ∙ told);
+      shown = one_label semantics s l (t, sends) ds ran told;
       told = then ∙ ap (λ z. z ++ lines) first ∙ append_assoc before (label_line names l ++ 10 ∷ []) lines ∙ ap (λ z. before ++ ((label_line names l ++ 10 ∷ []) ++ z)) (sym is);
     }
 
--- the line of a label, and then those of what was sent, all of which went out
-pub one_wrote : (semantics : Semantics) (s t : State) (l : Label) (sends : List Outgoing) (before middle after : List ℕ) → step semantics s l ≡ Some (t, sends) → went_out (t, sends) ≡ sends
-    → middle ≡ before ++ (label_line (names_in semantics) l ++ 10 ∷ []) → Wrote (sends_text semantics sends) middle after → WroteLines semantics s (l ∷ []) before after
-one_wrote semantics s t l sends before middle after ran out first w =
-    let a = mapped (each (datagram semantics) sends) _ w.lines w.shown in
-    wrote_by semantics s t l sends a.x before middle after w.lines ran out a.from a.is first w.told
+-- the line of a label, and then those of what went out
+pub one_wrote : (semantics : Semantics) (s t : State) (l : Label) (sends : List Outgoing) (before middle after : List ℕ) → step semantics s l ≡ Some (t, sends)
+    → middle ≡ before ++ (label_line (names_in semantics) l ++ 10 ∷ []) → Wrote (sends_text semantics (went_out (t, sends))) middle after → WroteLines semantics s (l ∷ []) before after
+one_wrote semantics s t l sends before middle after ran first w =
+    let a = mapped (each (datagram semantics) (went_out (t, sends))) _ w.lines w.shown in
+    wrote_by semantics s t l sends a.x before middle after w.lines ran a.from a.is first w.told
+
+-- no lines
+pub none_wrote : (semantics : Semantics) (s : State) (text : List ℕ) → WroteLines semantics s [] text text
+none_wrote semantics s text = record { lines = []; shown = refl; told = sym (append-nil text) }
 
 -- the lines of one run, and then those of another
 pub wrote_more : (semantics : Semantics) (s t : State) (xs ys : List Label) (before middle after : List ℕ) → state_after semantics s xs ≡ Some t → WroteLines semantics s xs before middle

@@ -1,249 +1,210 @@
--- A turn of a steady world, an arrival, and a loss.
-use Rattle.std.proofs.Common.{◌≡◌, ◌<◌, ◌≤◌, ◌+◌, ◌-◌, ◌^◌, ◌==◌, ◌&&◌, ℕ, zero, suc, Bool, true, false, List, [], ◌∷◌, length, take, slice_get, Option, Some, None, is_some, cond, IfSome, Result, Ok, Err, OnOk, refl, ap, sym, subst, ◌∙◌, arith, lit<, lit≤}
-use Rattle.std.specs.Option.{option_map}
-use Rattle.std.specs.List.{list_any}
-use Rattle.std.proofs.lemmas.List.{length-map, take_all}
-use Rattle.std.proofs.lemmas.Option.{slice_get-map}
-use Rattle.tap_base.specs.Lists.{Each}
+-- A turn of a process, put together of its labels.
+use Rattle.std.proofs.Common.{◌≡◌, ◌+◌, ◌<◌, ◌≤◌, ◌∙◌, ◌^◌, ℕ, ℤ, true, false, List, [], ◌∷◌, ◌++◌, length, slice_get, refl, ap, sym, subst, Option, Some, None, Result, Ok, Err, OnOk, inl, arith}
 use Rattle.tap_base.proofs.ListFacts.{element_at}
-use Rattle.tap_base.specs.declared.system.Process.{Process}
-use Rattle.tap_base.specs.declared.system.System.{System}
-use Rattle.tap_exec.specs.declared.running.Outgoing.{Outgoing}
-use Rattle.abstract_run.specs.Answers.{EndsTurn, IsLiveTurn, IsSegment, IsTurn, or_void, ran, idle, live}
-use Rattle.abstract_run.specs.Calm.{IsCalm}
-use Rattle.abstract_run.specs.CellCount.{cells_in}
-use Rattle.abstract_run.specs.Channels.{error_waits, has_error_for, is_error}
-use Rattle.abstract_run.specs.Progress.{CanTurn, IsPossible}
 use Rattle.guard_scheduler.specs.Cursor.{Cursor}
-use Rattle.exact_choice.specs.Choice.{AllChoose, Chooses}
-use Rattle.exact_choice.specs.Moments.{moments}
-use Rattle.abstract_run.specs.Run.{state_after}
-use Rattle.abstract_run.specs.Semantics.{Semantics, messages_of, semantics_of, process_semantics}
-use Rattle.abstract_run.specs.Step.{step}
+use Rattle.tap_exec.specs.Semantics.{Semantics}
 use Rattle.abstract_run.specs.declared.label.Event.{Event}
 use Rattle.abstract_run.specs.declared.label.Event.TheVariants as event
 use Rattle.abstract_run.specs.declared.label.Label.{Label}
 use Rattle.abstract_run.specs.declared.label.Label.TheVariants as label
-use Rattle.abstract_run.specs.declared.state.Channel.{Channel}
+use Rattle.abstract_run.specs.declared.state.Falling.{Falling}
 use Rattle.abstract_run.specs.declared.state.State.{State}
-use Rattle.abstract_run.proofs.GoesOn.{turns_go_on}
-use Rattle.run_text.specs.ScheduleText.{AreTwo}
-use Rattle.run_text.specs.Sized.{IsSized}
-use Rattle.run_text.specs.TraceText.{went_out}
-use Rattle.abstract_run.specs.Runnable.{IsRunnable}
-use Rattle.world_run.specs.Served.{IsSteady, Served}
-use Rattle.world_run.specs.inner.Serving.{Did, DidOrVoid, IsNext, IsNextOf, act, idle as stays_idle}
-use Rattle.world_run.proofs.Lines.{wrote_more}
-
--- ---- calm states
-
--- every element is the same
-all_same : {A : Type 0} (x : A) (xs : List A) (k : ℕ) → Each (λ y. y ≡ x) xs → k < length xs → slice_get xs k ≡ Some x
-all_same x [] k h lt = absurd (omega arith)
-all_same x (y ∷ ys) zero h lt = ap Some h.0
-all_same x (y ∷ ys) (suc k) h lt = all_same x ys k h.1 (omega (arith, lt))
-
--- no element passes the test, and so none of the first ones does
-none_passes : {A : Type 0} (test : A → Bool) (n : ℕ) (xs : List A) → Each (λ x. test x ≡ false) xs → list_any test (take n xs) ≡ false
-none_passes test zero xs h = refl
-none_passes test (suc n) [] h = refl
-none_passes test (suc n) (x ∷ xs) h = rw (h.0, none_passes test n xs h.1) refl
-
-no_error_in : (p : ℕ) (c : Channel) → Each (λ x. is_error x ≡ false) c.cells → has_error_for p c ≡ false
-no_error_in p c h = rw (none_passes is_error c.mark c.cells h) (elim (c.to == p) as (λ b. (b && false) ≡ false) [ true ↦ refl | false ↦ refl ])
-
-no_error : (p : ℕ) (channels : List Channel) → Each (λ c. Each (λ x. is_error x ≡ false) c.cells) channels → error_waits channels p ≡ false
-no_error p [] h = refl
-no_error p (c ∷ cs) h = rw (no_error_in p c h.0, no_error p cs h.1) refl
-
--- a process of a calm state is not down, and is not to be cut off
-live_turn : (semantics : Semantics) (s : State) (p c : ℕ) (labels : List Label) → IsSteady semantics s → p < length semantics.processes
-    → IsLiveTurn semantics s p c labels → IsTurn semantics s p c labels
-live_turn semantics s p c labels steady there h =
-    let uncut : Option ℕ = None in
-    live
-    (all_same false s.down p steady.calm.up (omega (arith, steady.fits.entries.down, there)))
-    (all_same uncut s.cuts p steady.calm.uncut (omega (arith, steady.fits.entries.cuts, there)))
-    (λ e. cc) h
-
--- ---- labels
-
-one_label : (m : Semantics) (s t : State) (l : Label) (sends : List Outgoing) → step m s l ≡ Some (t, sends) → state_after m s (l ∷ []) ≡ Some t
-one_label m s t l sends h = rw h refl
-
-two_labels : (m : Semantics) (s t u : State) (k l : Label) (xs ys : List Outgoing) → step m s k ≡ Some (t, xs) → step m t l ≡ Some (u, ys) → state_after m s (k ∷ l ∷ []) ≡ Some u
-two_labels m s t u k l xs ys h i = rw (h, i) refl
-
-ends : (m : Semantics) (s : State) (p actions : ℕ) (old new : List Cursor) (l : Label) → IsNext m s p actions old new l → EndsTurn p 0 (l ∷ [])
-ends m s p actions old new l (act small x) = ran
-ends m s p actions old new l (stays_idle first same) = idle (lit< tt)
-
--- ---- what is chosen
-
-one_moment : (m : Semantics) (s t : State) (l : Label) (sends : List Outgoing) → step m s l ≡ Some (t, sends) → moments m s (l ∷ []) ≡ (s, l) ∷ []
-one_moment m s t l sends h = rw h refl
-
-two_moments : (m : Semantics) (s t u : State) (k l : Label) (xs ys : List Outgoing) → step m s k ≡ Some (t, xs) → step m t l ≡ Some (u, ys) → moments m s (k ∷ l ∷ []) ≡ (s, k) ∷ (t, l) ∷ []
-two_moments m s t u k l xs ys h i = rw (h, i) refl
-
-chooses : (m : Semantics) (s : State) (p actions : ℕ) (old new : List Cursor) (l : Label) → IsNext m s p actions old new l → Chooses m (s, l) old new
-chooses m s p actions old new l (act small x) = x
-chooses m s p actions old new l (stays_idle first same) = same
-
--- a reading, and then what comes next
-two_choose : (m : Semantics) (s t u : State) (p c : ℕ) (l : Label) (xs ys : List Outgoing) (old new : List Cursor) → step m s (label.Tick p c) ≡ Some (t, xs) → step m t l ≡ Some (u, ys)
-    → Chooses m (t, l) old new → AllChoose m (moments m s (label.Tick p c ∷ l ∷ [])) old new
-two_choose m s t u p c l xs ys old new h i x = subst (λ ms. AllChoose m ms old new) (sym (two_moments m s t u (label.Tick p c) l xs ys h i)) (old, refl, (new, x, refl))
-
--- ---- lines
-
--- where nothing is falling, all that was sent went out
-pub all_out : (s : State) (sends : List Outgoing) → s.falling ≡ None → went_out (s, sends) ≡ sends
-all_out s sends h = rw h (take_all (length sends - 0) sends (omega arith))
-
--- ---- turns
-
--- what comes next is possible
-next_possible : (semantics : Semantics) (s : State) (p actions : ℕ) (old new : List Cursor) (l : Label) → CanTurn semantics s p actions → IsNext semantics s p actions old new l → IsPossible semantics s l
-next_possible semantics s p actions old new l can (act small x) = can.acts _ x.next.first.wanted
-next_possible semantics s p actions old new l can (stays_idle first same) = can.idles first
-
-next_sized : (semantics : Semantics) (s : State) (p actions n : ℕ) (old new : List Cursor) (l : Label) → p < n → IsNext semantics s p actions old new l → IsSized n l
-next_sized semantics s p actions n old new l there (act small x) = (there, small, tt)
-next_sized semantics s p actions n old new l there (stays_idle first same) = there
-
--- a reading and what comes next are a turn
-turn_served : {semantics : Semantics} {s t u : State} {p actions c : ℕ} {cursors later : List Cursor} {l : Label} {before middle after : List ℕ} → IsSteady semantics s → IsSteady semantics t → IsSteady semantics u
-    → p < length semantics.processes → c < 2 ^ 64 → Did semantics (label.Tick p c) s t before middle → IsNext semantics t p actions cursors later l → Did semantics l t u middle after
-    → Served semantics (event.Turn p c) s u cursors later before after
-turn_served {semantics = semantics} {s = s} {t = t} {u = u} {p = p} {actions = actions} {c = c} {cursors = cursors} {later = later} {l = l} {before = before} {middle = middle} {after = after} steady then last there short tick next done = record {
-  labels = label.Tick p c ∷ l ∷ [];
-  serves = record {
-    segment = live_turn semantics s p c _ steady there (record {
-      rejects = [];
-      of_process = tt;
-      at_most = lit≤ tt;
-      middle = t;
-      rejected = one_label semantics s t (label.Tick p c) tick.sends tick.ran;
-      clean = λ few. no_error p t.channels then.calm.sound;
-      last = l ∷ [];
-      ends = ends semantics t p actions cursors later l next;
-      whole = refl;
-    });
-    ran = two_labels semantics s t u (label.Tick p c) l tick.sends done.sends tick.ran done.ran;
-    settled = last.calm.settled;
-  };
-  chosen = two_choose semantics s t u p c l tick.sends done.sends cursors later tick.ran done.ran (chooses semantics t p actions cursors later l next);
-  sized = ((there, short), (next_sized semantics t p actions (length semantics.processes) cursors later l there next, tt));
-  wrote = wrote_more semantics s t (label.Tick p c ∷ []) (l ∷ []) before middle after (one_label semantics s t (label.Tick p c) tick.sends tick.ran) tick.wrote done.wrote;
-}
-
--- what a system says of a process that is there
-pub said_at : (system : System) (p : ℕ) (process : Process) → slice_get system.processes p ≡ Some process
-    → slice_get (semantics_of system).processes p ≡ Some (process_semantics (messages_of system) process)
-said_at system p process h = slice_get-map (process_semantics (messages_of system)) system.processes p ∙ ap (option_map (process_semantics (messages_of system))) h
-
-pub as_many : (system : System) (process : Process) → length (process_semantics (messages_of system) process).actions ≡ length process.actions
-as_many system process = length-map process.actions _
-
--- what a process that is there can do
-can_turn : (system : System) (s : State) (p : ℕ) (process : Process) → IsRunnable system → IsSteady (semantics_of system) s → cells_in s + 64 ≤ 4294967295 → slice_get system.processes p ≡ Some process
-    → CanTurn (semantics_of system) s p (length process.actions)
-can_turn system s p process runnable steady room h =
-    subst (CanTurn (semantics_of system) s p) (as_many system process)
-    (turns_go_on (semantics_of system) s p (process_semantics (messages_of system) process) runnable.safe.keeps runnable.unchosen steady.fits steady.calm room (said_at system p process h))
-
--- what comes next in a process that is there
-next_at : (system : System) (semantics : Semantics) (s : State) (p : ℕ) (old new : List Cursor) (l : Label) (process : Process) → slice_get system.processes p ≡ Some process
-    → IsNextOf system semantics s p old new l → IsNext semantics s p (length process.actions) old new l
-next_at system semantics s p old new l process e h = subst (λ o. IfSome (option_map (λ x. length x.actions) o) (λ n. IsNext semantics s p n old new l)) e h
-
--- in a steady state a process can take a reading
-pub reading_possible : (system : System) (s : State) (p c : ℕ) → IsRunnable system → IsSteady (semantics_of system) s → cells_in s + 64 ≤ 4294967295 → p < length system.processes
-    → IsPossible (semantics_of system) s (label.Tick p c)
-reading_possible system s p c runnable steady room there =
-    let f = element_at system.processes p there in
-    (can_turn system s p f.0 runnable steady room f.1).reads c
-
--- and then do what comes next
-pub following_possible : (system : System) (s : State) (p : ℕ) (old new : List Cursor) (l : Label) → IsRunnable system → IsSteady (semantics_of system) s → cells_in s + 64 ≤ 4294967295
-    → p < length system.processes → IsNextOf system (semantics_of system) s p old new l → IsPossible (semantics_of system) s l
-following_possible system s p old new l runnable steady room there h =
-    let f = element_at system.processes p there in
-    next_possible (semantics_of system) s p (length f.0.actions) old new l (can_turn system s p f.0 runnable steady room f.1) (next_at system (semantics_of system) s p old new l f.0 f.1 h)
+use Rattle.abstract_run.specs.Answers.{EndsTurn, IsSegment, arrived, cut_off, down, fell, live, most_waiting, ran}
+use Rattle.abstract_run.specs.Progress.{IsPossible, NeedsNoChoice}
+use Rattle.abstract_run.specs.Run.{state_after}
+use Rattle.abstract_run.specs.Safe.{BodiesKeepRanges}
+use Rattle.abstract_run.specs.Step.{is_live, is_zero, step}
+use Rattle.abstract_run.proofs.GoesOn.{actions_go_on, live_process, room_by, ticks_go_on}
+use Rattle.abstract_run.proofs.Kept.{some_fits}
+use Rattle.abstract_run.proofs.Ticked.{Read}
+use Rattle.exact_choice.specs.Choice.{AllChoose}
+use Rattle.exact_choice.specs.Moments.{moments}
+use Rattle.exact_choice.specs.Rejects.{AllReject}
+use Rattle.exact_choice.proofs.RejectsGoOn.{none_waits}
+use Rattle.world_run.specs.declared.course.Course.{Course}
+use Rattle.world_run.specs.Served.{Did, IsCourse, IsSteady, Served, WroteLines}
+use Rattle.world_run.specs.inner.Serving.{Chose, DidOne, Ended, Rejected, fall_labels}
+use Rattle.world_run.proofs.Leaves.{IsNoAct, fall_of, flood_possible, idle_possible, live_by, one_step, other_cut, settled_after, stop_possible, tick_reads, zero_cut}
+use Rattle.world_run.proofs.OneLabel.{course_after, did, did_more}
+use Rattle.world_run.proofs.Rejecting.{clean}
 
 pub on_ok : {T E : Type 0} {P Q : Type 0} (r : Result T E) → (P → Q) → OnOk r P → OnOk r Q
 on_ok (Ok x) f h = f h
 on_ok (Err e) f h = tt
 
--- a reading was done, and perhaps what comes next
-pub turn_done : {T E : Type 0} {system own : System} {s t u : State} {p c : ℕ} {before middle : List ℕ} (r : Result T E) (l : Label) (cursors later : List Cursor) (after : List ℕ) → own ≡ system
-    → IsSteady (semantics_of system) s → IsSteady (semantics_of system) t → IsSteady (semantics_of own) u → p < length system.processes → c < 2 ^ 64
-    → Did (semantics_of system) (label.Tick p c) s t before middle → IsNextOf own (semantics_of own) t p cursors later l
-    → OnOk r (Did (semantics_of own) l t u middle after) → OnOk r (Served (semantics_of system) (event.Turn p c) s u cursors later before after)
-turn_done {system = system} {own = own} {s = s} {t = t} {u = u} {p = p} {middle = middle} r l cursors later after same steady then last there short tick next done =
-    let f = element_at system.processes p there in
-    let follows = next_at system (semantics_of system) t p cursors later l f.0 f.1 (subst (λ x. IsNextOf x (semantics_of x) t p cursors later l) same next) in
-    let said : p < length (semantics_of system).processes = omega (arith, there, length-map system.processes (process_semantics (messages_of system))) in
-    on_ok r (λ d. turn_served steady then (subst (λ x. IsSteady (semantics_of x) u) same last) said short tick follows (subst (λ x. Did (semantics_of x) l t u middle after) same d)) done
+pub on_both : {T E : Type 0} {P Q R : Type 0} (r : Result T E) → (P → Q → R) → OnOk r P → OnOk r Q → OnOk r R
+on_both (Ok x) f h k = f h k
+on_both (Err e) f h k = tt
 
--- ---- arrivals and losses
+-- ---- one label
 
--- in a calm state nothing may happen
-pub void_possible : (semantics : Semantics) (s : State) → IsCalm s → IsPossible semantics s label.Void
-void_possible semantics s calm = record { next = s; sends = []; is = rw calm.settled refl }
+pub one_settled : (m : Semantics) (old new : Course) (l : Label) (before after : List ℕ) → Did m (l ∷ []) old new before after → IsNoAct l → old.state.falling ≡ None → new.state.falling ≡ None
+one_settled m old new l before after d other settled = let x = one_step m old.state new.state l d.ran in settled_after m old.state new.state l x.0 other settled x.1
 
--- a label that is possible, or nothing, is done
-pub done_or_void : {semantics : Semantics} {s t : State} {before after : List ℕ} (l : Label) → Did semantics l s t before after → DidOrVoid semantics l s t before after
-done_or_void {semantics = semantics} {s = s} {t = t} {before = before} {after = after} l d = subst (λ x. Did semantics x s t before after) (sym (possible_is semantics s l _ d.ran)) d where
-  possible_is : (m : Semantics) (s : State) (l : Label) (after : State × List Outgoing) → step m s l ≡ Some after → or_void m s l ≡ l
-  possible_is m s l after e = rw e refl
+pub one_steady : (m : Semantics) (old new : Course) (l : Label) (before after : List ℕ) → Did m (l ∷ []) old new before after → IsNoAct l → IsSteady m old → IsCourse m new → IsSteady m new
+one_steady m old new l before after d other steady whole = record { whole = whole; settled = one_settled m old new l before after d other steady.settled }
 
-pub void_or_done : {semantics : Semantics} {s t : State} {before after : List ℕ} (l : Label) → step semantics s l ≡ None → Did semantics label.Void s t before after → DidOrVoid semantics l s t before after
-void_or_done {semantics = semantics} {s = s} {t = t} {before = before} {after = after} l none d = subst (λ x. Did semantics x s t before after) (sym (void_is semantics s l none)) d where
-  void_is : (m : Semantics) (s : State) (l : Label) → step m s l ≡ None → or_void m s l ≡ label.Void
-  void_is m s l e = rw e refl
+pub served : (m : Semantics) (e : Event) (old new : Course) (labels : List Label) (before after : List ℕ) → IsSegment m old.state e labels → Did m labels old new before after → new.state.falling ≡ None
+    → Served m e old new before after
+served m e old new labels before after segment d settled = record { labels = labels; serves = record { segment = segment; ran = d.ran; settled = settled }; did = d }
 
--- it is no action, so it leaves the cursors
-abbrev IsNoAct : Label → Type 0
-IsNoAct (label.Act p a choices) = ⊥
-IsNoAct _ = Unit {0}
+-- ---- a process that is down
 
-no_choice : (m : Semantics) (s : State) (l : Label) (cursors : List Cursor) → IsNoAct l → Chooses m (s, l) cursors cursors
-no_choice m s (label.Act p a choices) cursors h = absurd h
-no_choice m s _ cursors h = refl
+pub down_served : (m : Semantics) (old new : Course) (p c : ℕ) (before after : List ℕ) → IsSteady m old → slice_get old.state.down p ≡ Some true → Did m (label.Down p ∷ []) old new before after
+    → Served m (event.Turn p c) old new before after
+down_served m old new p c before after steady is d = served m (event.Turn p c) old new (label.Down p ∷ []) before after (down is) d (one_settled m old new (label.Down p) before after d tt steady.settled)
 
--- one label is the segment of an event
-one_served : {semantics : Semantics} {s t : State} {before after : List ℕ} (e : Event) (l : Label) (cursors : List Cursor) → IsSegment semantics s e (l ∷ []) → IsNoAct l
-    → IsSized (length semantics.processes) l → t.falling ≡ None → Did semantics l s t before after → Served semantics e s t cursors cursors before after
-one_served {semantics = semantics} {s = s} {t = t} e l cursors is still sized settled d = record {
-  labels = l ∷ [];
-  serves = record { segment = is; ran = one_label semantics s t l d.sends d.ran; settled = settled };
-  chosen = subst (λ ms. AllChoose semantics ms cursors cursors) (sym (one_moment semantics s t l d.sends d.ran)) (cursors, no_choice semantics s l cursors still, refl);
-  sized = (sized, tt);
-  wrote = d.wrote;
+-- ---- a reading
+
+pub reading : (m : Semantics) (old new : Course) (p c : ℕ) (before after : List ℕ) → old.state.falling ≡ None → Did m (label.Tick p c ∷ []) old new before after → Read old.state p c new.state
+reading m old new p c before after settled d = let x = one_step m old.state new.state (label.Tick p c) d.ran in tick_reads m old.state new.state p c x.0 settled x.1
+
+pub live_after : (m : Semantics) (old new : Course) (p c : ℕ) (before after : List ℕ) → old.state.falling ≡ None → slice_get old.state.down p ≡ Some false → Did m (label.Tick p c ∷ []) old new before after
+    → is_live new.state p ≡ true
+live_after m old new p c before after settled up d =
+    ap (λ (s : State). is_live s p) (sym (reading m old new p c before after settled d).next) ∙ live_by old.state p up
+
+pub tick_possible : (m : Semantics) (course : Course) (p c : ℕ) → IsSteady m course → slice_get course.state.down p ≡ Some false → IsPossible m course.state (label.Tick p c)
+tick_possible m course p c steady up = ticks_go_on m course.state p c steady.whole.fits steady.settled (live_by course.state p up)
+
+-- ---- a process that is cut off
+
+pub cut_possible : (m : Semantics) (old new : Course) (p c : ℕ) (receivers before after : List ℕ) → IsSteady m old → slice_get old.state.down p ≡ Some false → is_zero (slice_get old.state.cuts p) ≡ true
+    → Did m (label.Tick p c ∷ []) old new before after → receivers ≡ [] → IsPossible m new.state (label.Stop p receivers)
+cut_possible m old new p c receivers before after steady up cut d none =
+    let r = reading m old new p c before after steady.settled d in
+    subst (λ rs. IsPossible m new.state (label.Stop p rs)) (sym none)
+    (stop_possible m new.state p (one_settled m old new (label.Tick p c) before after d tt steady.settled) (live_after m old new p c before after steady.settled up d)
+    (ap (λ (s : State). is_zero (slice_get s.cuts p)) (sym r.next) ∙ cut))
+
+pub cut_served : (m : Semantics) (a b c : Course) (p r : ℕ) (receivers before middle after : List ℕ) → IsSteady m a → slice_get a.state.down p ≡ Some false → is_zero (slice_get a.state.cuts p) ≡ true → receivers ≡ []
+    → Did m (label.Tick p r ∷ []) a b before middle → Did m (label.Stop p receivers ∷ []) b c middle after → Served m (event.Turn p r) a c before after
+cut_served m a b c p r receivers before middle after steady up cut none d e =
+    let stop = subst (λ rs. Did m (label.Stop p rs ∷ []) b c middle after) none e in
+    served m (event.Turn p r) a c (label.Tick p r ∷ label.Stop p [] ∷ []) before after (cut_off up (zero_cut (slice_get a.state.cuts p) cut) (inl refl))
+    (did_more m a b c (label.Tick p r ∷ []) (label.Stop p [] ∷ []) before middle after d stop)
+    (one_settled m b c (label.Stop p []) middle after stop tt (one_settled m a b (label.Tick p r) before middle d tt steady.settled))
+
+-- ---- a live process
+
+pub live_served : (m : Semantics) (a b c d : Course) (p r n : ℕ) (t0 t1 t2 t3 : List ℕ) → IsSteady m a → slice_get a.state.down p ≡ Some false → p < length m.processes → is_zero (slice_get a.state.cuts p) ≡ false
+    → Did m (label.Tick p r ∷ []) a b t0 t1 → Rejected m p n b c t1 t2 → n ≤ most_waiting → (n < most_waiting → slice_get c.errors p ≡ Some []) → Ended m p n c d t2 t3 → Served m (event.Turn p r) a d t0 t3
+live_served m a b c d p r n t0 t1 t2 t3 steady up there uncut tick rejected most left ended =
+    let cut = element_at a.state.cuts p (let counted = steady.whole.fits.entries.cuts in omega (arith, there, counted)) in
+    let read = reading m a b p r t0 t1 steady.settled tick in
+    let front = label.Tick p r ∷ rejected.labels in
+    let both = did_more m a b c (label.Tick p r ∷ []) rejected.labels t0 t1 t2 tick rejected.did in
+    let same : arrived b.state p ≡ arrived a.state p = ap (λ (s : State). arrived s p) (sym read.next) in
+    served m (event.Turn p r) a d (front ++ ended.labels) t0 t3
+    (live up cut.1 (other_cut (slice_get a.state.cuts p) cut.0 cut.1 uncut) (record {
+      rejects = rejected.labels;
+      of_process = rejected.of_process;
+      at_most = let counted = rejected.counted in omega (arith, counted, most);
+      middle = c.state;
+      rejected = both.ran;
+      clean = λ few. clean m b c p n t1 t2 rejected most left (omega (arith, few, same));
+      last = ended.labels;
+      ends = subst (λ k. EndsTurn p k ended.labels) (sym rejected.counted) ended.ends;
+      whole = refl;
+    }))
+    (did_more m a c d front ended.labels t0 t2 t3 both ended.did) ended.settled
+
+-- ---- the end of a turn
+
+pub act_possible : (m : Semantics) (c v : Course) (p a : ℕ) (choices : List ℤ) → BodiesKeepRanges m → NeedsNoChoice m → IsSteady m c → is_live c.state p ≡ true → c.cells ≤ 100000 → v.state ≡ c.state → choices ≡ []
+    → Chose m c.state p c.turnstiles (Some a) v.turnstiles → IsPossible m v.state (label.Act p a choices)
+act_possible m c v p a choices keep free steady up room same none chose =
+    subst (λ s. IsPossible m s (label.Act p a choices)) (sym same) (subst (λ cs. IsPossible m c.state (label.Act p a cs)) (sym none)
+    (actions_go_on m c.state p a keep free steady.whole.fits steady.settled up (room_by c.state.channels 64 (let cells = steady.whole.cells in omega (arith, cells, room))) chose.next.first.wanted))
+
+pub act_refused : (m : Semantics) (c v : Course) (p a : ℕ) (choices : List ℤ) → BodiesKeepRanges m → NeedsNoChoice m → IsSteady m c → is_live c.state p ≡ true → c.cells ≤ 100000 → v.state ≡ c.state → choices ≡ []
+    → Chose m c.state p c.turnstiles (Some a) v.turnstiles → step m v.state (label.Act p a choices) ≡ None → ⊥
+act_refused m c v p a choices keep free steady up room same none chose refused = let x = act_possible m c v p a choices keep free steady up room same none chose in let is = x.is in cc
+
+-- an action that was chosen was done
+pub acted : (m : Semantics) (c v d : Course) (p a : ℕ) (choices : List ℤ) (before after : List ℕ) → v.state ≡ c.state → v.cells ≡ c.cells → choices ≡ [] → DidOne m (label.Act p a choices) v d before after
+    → DidOne m (label.Act p a []) c d before after
+acted m c v d p a choices before after state cells none x = record {
+  sends = x.sends;
+  ran = subst (λ cs. step m c.state (label.Act p a cs) ≡ Some (d.state, x.sends)) none (subst (λ s. step m s (label.Act p a choices) ≡ Some (d.state, x.sends)) state x.ran);
+  fits = x.fits;
+  cells = x.cells;
+  few = let few = x.few in omega (arith, few, cells);
+  wrote = subst (λ cs. WroteLines m c.state (label.Act p a cs ∷ []) before after) none (subst (λ s. WroteLines m s (label.Act p a choices ∷ []) before after) state x.wrote);
 }
 
-no_act : (l : Label) (b : Bool) → IsNoAct l → IsNoAct (cond b l label.Void)
-no_act l true h = h
-no_act l false h = tt
+pub act_course : (m : Semantics) (c v d : Course) (p a : ℕ) (choices : List ℤ) (before after : List ℕ) → IsCourse m c → v.state ≡ c.state → v.cells ≡ c.cells → v.errors ≡ c.errors → choices ≡ []
+    → Chose m c.state p c.turnstiles (Some a) v.turnstiles → DidOne m (label.Act p a choices) v d before after → d.turnstiles ≡ v.turnstiles → d.errors ≡ v.errors → IsCourse m d
+act_course m c v d p a choices before after whole state cells errors none chose x cursors rest =
+    course_after m c d (label.Act p a []) before after whole (acted m c v d p a choices before after state cells none x)
+    (subst (λ (cs : List Cursor). Chose m c.state p c.turnstiles (Some a) cs) (sym cursors) chose) (rest ∙ errors)
 
-void_sized : (n : ℕ) (l : Label) (b : Bool) → IsSized n l → IsSized n (cond b l label.Void)
-void_sized n l true h = h
-void_sized n l false h = tt
+act_ends : (m : Semantics) (c v d e : Course) (p a n : ℕ) (choices : List ℤ) (before middle after : List ℕ) → IsSteady m c → v.state ≡ c.state → v.cells ≡ c.cells → v.errors ≡ c.errors → choices ≡ []
+    → Chose m c.state p c.turnstiles (Some a) v.turnstiles → p < length m.processes → a < 2 ^ 32 → DidOne m (label.Act p a choices) v d before middle → d.turnstiles ≡ v.turnstiles → d.errors ≡ v.errors
+    → Did m (fall_labels d.state.falling) d e middle after → IsSteady m e → e.cells ≤ d.cells → Ended m p n c e before after
+act_ends m c v d e p a n choices before middle after steady state cells errors none chose there short x cursors rest fallen last few =
+    let one = acted m c v d p a choices before middle state cells none x in
+    let first = did m c d (label.Act p a []) before middle one (subst (λ (cs : List Cursor). Chose m c.state p c.turnstiles (Some a) cs) (sym cursors) chose) (rest ∙ errors) (there, short, tt) in
+    record {
+      labels = label.Act p a [] ∷ fall_labels d.state.falling;
+      ends = by_fall d.state.falling refl one;
+      did = did_more m c d e (label.Act p a [] ∷ []) (fall_labels d.state.falling) before middle after first fallen;
+      course = last.whole;
+      settled = last.settled;
+      few = let more = one.few in omega (arith, few, more);
+    } where
+      by_fall : (o : Option Falling) → d.state.falling ≡ o → DidOne m (label.Act p a []) c d before middle → EndsTurn p n (label.Act p a [] ∷ fall_labels o)
+      by_fall None is one = ran
+      by_fall (Some f) is one =
+          subst (λ q. EndsTurn p n (label.Act p a [] ∷ label.Stop q f.receivers ∷ [])) (sym (fall_of m c.state d.state p a [] one.sends f steady.settled one.ran is))
+          (fell (some_fits d.state f d.state.falling is one.fits.falling).some_receiver)
 
--- a datagram arrived, or none was in flight
-pub arrival_served : {semantics : Semantics} {s t : State} {cursors later : List Cursor} (q p : ℕ) {before after : List ℕ} → later ≡ cursors → IsSteady semantics t → AreTwo (length semantics.processes) q p
-    → DidOrVoid semantics (label.Arrive q p) s t before after → Served semantics (event.Arrive q p) s t cursors later before after
-arrival_served {semantics = m} {s = s} {t = t} {cursors = cursors} q p {before = before} {after = after} same steady two d =
-    let b = is_some (step m s (label.Arrive q p)) in
-    subst (λ cs. Served m (event.Arrive q p) s t cursors cs before after) (sym same)
-    (one_served (event.Arrive q p) (or_void m s (label.Arrive q p)) cursors refl (no_act (label.Arrive q p) b tt) (void_sized _ (label.Arrive q p) b (two.0, two.1)) steady.calm.settled d)
+pub act_ended : {T E : Type 0} (r : Result T E) (m : Semantics) (c v d e : Course) (p a n : ℕ) (choices : List ℤ) (before middle after : List ℕ) → IsSteady m c → v.state ≡ c.state → v.cells ≡ c.cells → v.errors ≡ c.errors → choices ≡ []
+    → Chose m c.state p c.turnstiles (Some a) v.turnstiles → p < length m.processes → a < 2 ^ 32 → DidOne m (label.Act p a choices) v d before middle → d.turnstiles ≡ v.turnstiles → d.errors ≡ v.errors
+    → OnOk r (Did m (fall_labels d.state.falling) d e middle after) → OnOk r (IsSteady m e) → OnOk r (e.cells ≤ d.cells) → OnOk r (Ended m p n c e before after)
+act_ended (Err x) m c v d e p a n choices before middle after steady state cells errors none chose there short one cursors rest fallen last few = tt
+act_ended (Ok x) m c v d e p a n choices before middle after steady state cells errors none chose there short one cursors rest fallen last few =
+    act_ends m c v d e p a n choices before middle after steady state cells errors none chose there short one cursors rest fallen last few
 
--- a datagram was lost, or none was in flight at the place
-pub loss_served : {semantics : Semantics} {s t : State} {cursors later : List Cursor} (q p i : ℕ) {before after : List ℕ} → later ≡ cursors → IsSteady semantics t → AreTwo (length semantics.processes) q p → i < 2 ^ 32
-    → DidOrVoid semantics (label.Lose q p i) s t before after → Served semantics (event.Lose q p i) s t cursors later before after
-loss_served {semantics = m} {s = s} {t = t} {cursors = cursors} q p i {before = before} {after = after} same steady two short d =
-    let b = is_some (step m s (label.Lose q p i)) in
-    subst (λ cs. Served m (event.Lose q p i) s t cursors cs before after) (sym same)
-    (one_served (event.Lose q p i) (or_void m s (label.Lose q p i)) cursors refl (no_act (label.Lose q p i) b tt) (void_sized _ (label.Lose q p i) b (two.0, two.1, short)) steady.calm.settled d)
+-- where nothing is enabled
+
+pub did_from : (m : Semantics) (c v e : Course) (labels : List Label) (before after : List ℕ) → v.state ≡ c.state → v.turnstiles ≡ c.turnstiles → v.errors ≡ c.errors → Did m labels v e before after
+    → Did m labels c e before after
+did_from m c v e labels before after state cursors errors d = record {
+  ran = subst (λ s. state_after m s labels ≡ Some e.state) state d.ran;
+  chosen = subst (λ s. AllChoose m (moments m s labels) c.turnstiles e.turnstiles) state (subst (λ (cs : List Cursor). AllChoose m (moments m v.state labels) cs e.turnstiles) cursors d.chosen);
+  rejected = subst (λ s. AllReject (moments m s labels) c.errors e.errors) state (subst (λ (es : List (List ℕ)). AllReject (moments m v.state labels) es e.errors) errors d.rejected);
+  sized = d.sized;
+  wrote = subst (λ s. WroteLines m s labels before after) state d.wrote;
+}
+
+pub idle_can : (m : Semantics) (c v : Course) (p : ℕ) → IsSteady m c → is_live c.state p ≡ true → slice_get c.errors p ≡ Some [] → v.state ≡ c.state → Chose m c.state p c.turnstiles None v.turnstiles
+    → IsPossible m v.state (label.Idle p)
+idle_can m c v p steady up left same chose =
+    let x = live_process m c.state p steady.whole.fits up in
+    subst (λ s. IsPossible m s (label.Idle p)) (sym same)
+    (idle_possible m c.state p x.0 steady.settled up x.1 chose.0 (none_waits m c.state p c.errors steady.whole.fits steady.whole.errors left))
+
+pub flood_can : (m : Semantics) (c v : Course) (p : ℕ) → IsSteady m c → is_live c.state p ≡ true → v.state ≡ c.state → Chose m c.state p c.turnstiles None v.turnstiles → IsPossible m v.state (label.Flood p)
+flood_can m c v p steady up same chose =
+    let x = live_process m c.state p steady.whole.fits up in
+    subst (λ s. IsPossible m s (label.Flood p)) (sym same) (flood_possible m c.state p x.0 steady.settled up x.1 chose.0)
+
+none_ends : (m : Semantics) (c v e : Course) (p n : ℕ) (l : Label) (before after : List ℕ) → IsSteady m c → v.state ≡ c.state → v.cells ≡ c.cells → v.errors ≡ c.errors
+    → Chose m c.state p c.turnstiles None v.turnstiles → IsNoAct l → EndsTurn p n (l ∷ []) → Did m (l ∷ []) v e before after → IsCourse m e → e.cells ≤ v.cells + 0 → Ended m p n c e before after
+none_ends m c v e p n l before after steady state cells errors chose other ends d whole few =
+    let done = did_from m c v e (l ∷ []) before after state chose.1 errors d in
+    record {
+      labels = l ∷ [];
+      ends = ends;
+      did = done;
+      course = whole;
+      settled = one_settled m c e l before after done other steady.settled;
+      few = omega (arith, few, cells);
+    }
+
+pub none_ended : {T E : Type 0} (r : Result T E) (m : Semantics) (c v e : Course) (p n : ℕ) (l : Label) (before after : List ℕ) → IsSteady m c → v.state ≡ c.state → v.cells ≡ c.cells → v.errors ≡ c.errors
+    → Chose m c.state p c.turnstiles None v.turnstiles → IsNoAct l → EndsTurn p n (l ∷ []) → OnOk r (Did m (l ∷ []) v e before after) → OnOk r (IsCourse m e) → OnOk r (e.cells ≤ v.cells + 0)
+    → OnOk r (Ended m p n c e before after)
+none_ended (Err x) m c v e p n l before after steady state cells errors chose other ends d whole few = tt
+none_ended (Ok x) m c v e p n l before after steady state cells errors chose other ends d whole few = none_ends m c v e p n l before after steady state cells errors chose other ends d whole few

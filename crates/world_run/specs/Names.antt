@@ -1,6 +1,6 @@
 -- Which names stand in the lines of a run.
 use Rattle.std.specs.Prelude.{◌≡◌}
-use Rattle.abstract_run.specs.Semantics.{Semantics}
+use Rattle.tap_exec.specs.Semantics.{Semantics}
 use Rattle.run_text.specs.TraceText.{names_in, vars_in}
 use Rattle.run_text.specs.declared.names.Names.{Names}
 

@@ -12,7 +12,7 @@ use Rattle.tap_base.specs.declared.wire.WireField.{WireField}
 use Rattle.tap_base.specs.Option.{is_yes}
 use Rattle.tap_exec.specs.Computed.{computed}
 use Rattle.tap_exec.specs.Execution.{exec_all}
-use Rattle.abstract_run.specs.Semantics.{Semantics, ProcessSemantics, ActionSemantics, GuardSemantics, local, receive, timeout, input_semantics, messages_of}
+use Rattle.tap_exec.specs.Semantics.{Semantics, ProcessSemantics, ActionSemantics, GuardSemantics, local, receive, timeout, input_semantics, messages_of}
 
 -- the value can be computed, and is 1
 abbrev pub test_holds : Expr → List ℤ → List ℤ → Bool

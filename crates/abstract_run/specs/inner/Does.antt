@@ -1,5 +1,5 @@
 -- What code says that changes something in place.
-use Rattle.std.specs.Prelude.{◌≡◌, Bool, true, false, Option, Some, None, Result, Ok, Err}
+use Rattle.std.specs.Prelude.{◌≡◌, Bool, true, false, List, [], Option, Some, None, Result, Ok, Err}
 use Rattle.abstract_run.specs.declared.state.StepFault.{StepFault}
 use Rattle.abstract_run.specs.declared.state.StepFault.TheVariants as fault
 
@@ -13,3 +13,8 @@ abbrev pub Tries : {A B : Type 0} → Option A → A → Result B StepFault → 
 Tries expected old (Ok done) new = expected ≡ Some new
 Tries expected old (Err fault.NotEnabled) new = (expected ≡ None) × (new ≡ old)
 Tries expected old (Err fault.NoMemory) new = new ≡ old
+
+-- What was done, without an answer, is done and nothing was sent; what was not done stays so.
+abbrev pub SendsNothing : {A B : Type 0} → Result B StepFault → Result (List A) StepFault → Type 0
+SendsNothing (Ok done) result = result ≡ Ok []
+SendsNothing (Err why) result = result ≡ Err why

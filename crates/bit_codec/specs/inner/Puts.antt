@@ -1,6 +1,6 @@
 -- Bits on their way into a room of bytes.
 use Rattle.std.specs.Prelude.{◌≡◌, ℕ, ◌+◌, ◌*◌, ◌<◌, ◌≤◌, ◌^◌, List, ◌++◌, take, drop, length}
-use Rattle.abstract_run.specs.Spelling.{digits, padded}
+use Rattle.byte_meaning.specs.Spelling.{digits, padded}
 use Rattle.byte_meaning.specs.Reading.{bits_of}
 use Rattle.bit_codec.specs.declared.writer.Pending.{Pending}
 

@@ -1,12 +1,13 @@
 -- The command `world`: a run of a system on a schedule, with the inputs that settings give.
-use Rattle.std.specs.Prelude.{◌≡◌, ◌⊎◌, ⊤, ℕ, ◌+◌, List, [], ◌∷◌, ◌++◌, length, Some}
+use Rattle.std.specs.Prelude.{◌≡◌, ◌⊎◌, ⊤, ℕ, ◌+◌, ◌<◌, List, [], ◌∷◌, ◌++◌, length, Some}
 use Rattle.tap_base.specs.declared.system.Inputs.{Inputs}
 use Rattle.tap_base.specs.declared.system.System.{System}
+use Rattle.abstract_run.specs.CellCount.{cells_in}
 use Rattle.abstract_run.specs.Opening.{opening_state}
-use Rattle.abstract_run.specs.Semantics.{semantics_of}
+use Rattle.tap_exec.specs.Semantics.{semantics_of}
 use Rattle.abstract_run.specs.declared.label.Event.{Event}
 use Rattle.run_text.specs.OneTrace.{IsTraceOf}
-use Rattle.run_text.specs.ScheduleText.{BeginsSchedule, GoesOnAfter, SpellsSchedule}
+use Rattle.run_text.specs.ScheduleText.{BeginsSchedule, GoesOnAfter, MeetsEvent, SpellsSchedule}
 use Rattle.run_text.specs.TraceText.{names_in}
 use Rattle.tap_front.specs.Runs.{CanRun, OffendsRun}
 use Rattle.tap_settings.specs.GivenInputs.{inputs_given}
@@ -16,11 +17,12 @@ use Rattle.tap_settings.specs.Offences.{settings_offences}
 use Rattle.tap_settings.specs.SettingText.{Assignment}
 use Rattle.tap_settings.specs.declared.refusals.SettingRefusal.{SettingRefusal}
 use Rattle.tapc_core.specs.Command.{Command, Contents}
-use Rattle.tapc_core.specs.Lines.{bad_line, no_memory_line, read_fault_line}
+use Rattle.tapc_core.specs.Lines.{bad_line, full_line, no_memory_line, read_fault_line}
 use Rattle.tapc_core.specs.Run.{HoldsSystem, IsOfSchedule, Played, Task, lines_of}
+use Rattle.world_run.specs.Served.{full_from}
 use Rattle.tapc_core.specs.commands.Text.{HasOffence, HasSystem, IsRefusal, leaves_refused}
 use Rattle.tapc_core.specs.declared.status.Status.{Status}
-use Rattle.tapc_core.specs.declared.status.Status.TheVariants.{Done, Refused, BadSchedule, ReadFault, WriteFault, NoMemory}
+use Rattle.tapc_core.specs.declared.status.Status.TheVariants.{Done, Refused, BadSchedule, ReadFault, WriteFault, NoMemory, WorldFull}
 
 -- the two files of these names, and the settings
 abbrev pub task_of : List ℕ → List ℕ → List Assignment → Contents → Task
@@ -41,6 +43,15 @@ pub record IsBadTrace (task : Task) (bytes : List ℕ) : Type 0 where
   pub lines : List ℕ
   pub shown : lines_of run ≡ Some lines
   pub is : bytes ≡ lines ++ bad_line (length run.events + 1)
+
+-- The lines of a run on the lines before that of an event which is reached with more than 99,936 cells, and how many.
+pub record IsFullTrace (task : Task) (bytes : List ℕ) : Type 0 where
+  pub run : Played task
+  pub schedule : IsOfSchedule MeetsEvent run
+  pub many : full_from < cells_in run.last
+  pub lines : List ℕ
+  pub shown : lines_of run ≡ Some lines
+  pub is : bytes ≡ lines ++ full_line (cells_in run.last)
 
 -- The lines of a run on some first lines of the schedule.
 pub record IsFrontOfTrace (task : Task) (bytes : List ℕ) : Type 0 where
@@ -71,6 +82,7 @@ OfWorld task Done bytes = IsTrace task bytes
 OfWorld task Refused bytes = IsRefusal OffendsRun task.text bytes ⊎ IsMisset task bytes
 OfWorld task BadSchedule bytes = IsBadTrace task bytes
 OfWorld task ReadFault bytes = bytes ≡ read_fault_line
+OfWorld task WorldFull bytes = IsFullTrace task bytes
 OfWorld task NoMemory bytes = IsUnfinished task bytes
 OfWorld task _ bytes = ⊥
 
@@ -83,6 +95,7 @@ IsOfWorld BadSchedule = ⊤
 IsOfWorld ReadFault = ⊤
 IsOfWorld WriteFault = ⊤
 IsOfWorld NoMemory = ⊤
+IsOfWorld WorldFull = ⊤
 IsOfWorld _ = ⊥
 
 -- the answers that playing a schedule gives
@@ -91,6 +104,7 @@ IsPlayed Done = ⊤
 IsPlayed BadSchedule = ⊤
 IsPlayed WriteFault = ⊤
 IsPlayed NoMemory = ⊤
+IsPlayed WorldFull = ⊤
 IsPlayed _ = ⊥
 
 -- Told files: the text can be run as a system, the settings give it inputs, and the schedule is of this kind for it and
@@ -110,9 +124,13 @@ pub record HasMisset (task : Task) : Type 0 where
   pub refusal : SettingRefusal
   pub is : first (settings_offences text.system task.settings) ≡ Some refusal
 
+-- No event of the schedule is reached with more than 99,936 cells.
+abbrev pub IsNeverFull : Task → Type 0
+IsNeverFull task = (bytes : List ℕ) → IsFullTrace task bytes → ⊥
+
 pub data WorldIsSure (task : Task) : Status → Type 0 where
-  plays : HasSchedule SpellsSchedule task → WorldIsSure task Done
-  stops : HasSchedule GoesOnAfter task → WorldIsSure task BadSchedule
+  plays : HasSchedule SpellsSchedule task → IsNeverFull task → WorldIsSure task Done
+  stops : HasSchedule GoesOnAfter task → IsNeverFull task → WorldIsSure task BadSchedule
   refuses : HasOffence OffendsRun task.text → WorldIsSure task Refused
   missets : HasMisset task → WorldIsSure task Refused
 
@@ -122,6 +140,7 @@ pub data WorldIsSure (task : Task) : Status → Type 0 where
 abbrev pub reads_both : List ℕ → List ℕ → Status → List (List ℕ)
 reads_both system schedule Done = system ∷ schedule ∷ []
 reads_both system schedule BadSchedule = system ∷ schedule ∷ []
+reads_both system schedule WorldFull = system ∷ schedule ∷ []
 reads_both system schedule Refused = system ∷ []
 reads_both system schedule _ = []
 

@@ -4,17 +4,21 @@ use Rattle.std.specs.Io.KnownBytes.{Appends}
 use Rattle.tap_base.specs.Lists.{Each}
 use Rattle.tap_base.specs.declared.system.Inputs.{Inputs}
 use Rattle.tap_base.specs.declared.system.System.{System}
-use Rattle.abstract_run.specs.Semantics.{Semantics, semantics_of}
+use Rattle.tap_exec.specs.Semantics.{Semantics, semantics_of}
+use Rattle.abstract_run.specs.CellCount.{cells_in}
+use Rattle.world_run.specs.Served.{full_from}
 use Rattle.abstract_run.specs.declared.label.Event.{Event}
 use Rattle.abstract_run.specs.declared.label.Label.{Label}
 use Rattle.abstract_run.specs.declared.state.State.{State}
-use Rattle.run_text.specs.ScheduleText.{AreListed, BeginsBadly, events_text, most_events}
+use Rattle.run_text.specs.ScheduleText.{AreListed, BeginsBadly, IsFirstLine, IsLineOf, events_text, most_events}
 use Rattle.run_text.specs.Sized.{IsSized}
 use Rattle.run_text.specs.TraceText.{lines_text, names_in, run_lines}
 use Rattle.link_trait.specs.Outside.{Rose}
 use Rattle.tapc_core.specs.Run.{FileGives, IsRunFrom, Task}
 use Rattle.tapc_core.specs.declared.lines.Stop.{Stop}
 use Rattle.tapc_core.specs.declared.lines.Stop.TheVariants as stop
+use Rattle.world_run.specs.declared.fault.WorldFault.{WorldFault}
+use Rattle.world_run.specs.declared.fault.WorldFault.TheVariants as world_fault
 
 -- The file of the system gives what the system says, and with the settings these inputs; and the schedule is this text,
 -- where it is told.
@@ -57,11 +61,24 @@ pub record Broken (semantics : Semantics) (start : State) (schedule : List ℕ) 
   pub cut : front ++ behind ≡ page
   pub told : Appends middle now front
 
--- what playing a schedule leaves: it is served to its end, or a line is none, or memory was refused, or a put failed
+-- The line of this number is that of an event.
+pub record IsNext (names : List (List ℕ)) (rest : List ℕ) (number : ℕ) : Type 0 where
+  pub some : rest ≡ [] → ⊥
+  pub line : List ℕ
+  pub behind : List ℕ
+  pub first : IsFirstLine rest line behind
+  pub event : Event
+  pub is : IsLineOf names line event
+  pub few : number ≤ most_events
+
+-- what playing a schedule leaves: it is served to its end, or a line is none, or an event is reached with too many cells,
+-- or memory was refused, or a put failed
 abbrev pub Plays : Semantics → State → List ℕ → Option (List ℕ) → Result Unit Stop → State → Option (List ℕ) → List ℕ → Type 0
 Plays semantics start schedule before (Ok x) s now page = (number : ℕ) × Progress semantics start schedule [] number s before now page
 Plays semantics start schedule before (Err (stop.BadLine number)) s now page =
     (rest : List ℕ) × (rest ≡ [] → ⊥) × ((most_events < number) ⊎ BeginsBadly (names_in semantics) rest) × Progress semantics start schedule rest number s before now page
+Plays semantics start schedule before (Err (stop.Full cells)) s now page =
+    (rest : List ℕ) × (number : ℕ) × IsNext (names_in semantics) rest number × (full_from < cells) × (cells ≡ cells_in s) × Progress semantics start schedule rest number s before now page
 Plays semantics start schedule before (Err stop.NoMemory) s now page = (rest : List ℕ) × (number : ℕ) × (t : State) × Progress semantics start schedule rest number t before now page
 Plays semantics start schedule before (Err stop.Failed) s now page = Broken semantics start schedule before now
 
@@ -74,3 +91,8 @@ Moves old before (Err e) new now = (front rest : List ℕ) × (front ++ rest ≡
 abbrev pub HasPlayCause : ℕ → ℕ → Result Unit Stop → Type 0
 HasPlayCause before now (Err stop.Failed) = (before ≤ now) × Rose before now
 HasPlayCause before now _ = now ≡ before
+
+-- why a world stops the playing
+abbrev pub stopped_by : WorldFault → Stop
+stopped_by (world_fault.Full cells) = stop.Full cells
+stopped_by world_fault.NoMemory = stop.NoMemory

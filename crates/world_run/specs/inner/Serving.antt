@@ -1,22 +1,45 @@
 -- How a world serves an event, label by label.
-use Rattle.std.specs.Prelude.{◌≡◌, ℕ, ◌<◌, ◌^◌, Bool, true, false, List, [], ◌∷◌, ◌++◌, length, map, slice_get, slice_set, IfSome, Option, Some, None}
+use Rattle.std.specs.Prelude.{◌≡◌, ℕ, ◌<◌, ◌≤◌, ◌+◌, Bool, true, false, List, [], ◌∷◌, ◌++◌, length, map, slice_get, slice_set, Option, Some, None}
 use Rattle.std.specs.Option.{option_map}
 use Rattle.tap_base.specs.declared.system.System.{System}
-use Rattle.tap_base.specs.Option.{each}
+use Rattle.tap_base.specs.Lists.{Each}
+use Rattle.tap_base.specs.Option.{◌>>=◌, each}
 use Rattle.tap_exec.specs.declared.running.Outgoing.{Outgoing}
-use Rattle.abstract_run.specs.Answers.{or_void}
-use Rattle.abstract_run.specs.Enabled.{is_enabled}
-use Rattle.abstract_run.specs.Run.{IsFirst}
-use Rattle.abstract_run.specs.Semantics.{Semantics}
-use Rattle.abstract_run.specs.Step.{step}
+use Rattle.tap_exec.specs.Semantics.{Semantics, semantics_of}
+use Rattle.abstract_run.specs.declared.label.Event.{Event}
+use Rattle.abstract_run.specs.declared.label.Event.TheVariants as event
 use Rattle.abstract_run.specs.declared.label.Label.{Label}
 use Rattle.abstract_run.specs.declared.label.Label.TheVariants as label
+use Rattle.abstract_run.specs.declared.state.Falling.{Falling}
 use Rattle.abstract_run.specs.declared.state.State.{State}
+use Rattle.abstract_run.specs.Answers.{EndsTurn, IsRejectOf, arrived}
+use Rattle.abstract_run.specs.CellCount.{cells_in}
+use Rattle.abstract_run.specs.Enabled.{is_enabled}
+use Rattle.abstract_run.specs.Fits.{Fits}
+use Rattle.abstract_run.specs.Runnable.{IsRunnable}
+use Rattle.abstract_run.specs.Step.{step}
 use Rattle.guard_scheduler.specs.Cursor.{Cursor}
 use Rattle.guard_scheduler.specs.Turnstile.{Picks}
 use Rattle.exact_choice.specs.Choice.{ChoosesAct}
 use Rattle.run_text.specs.TraceText.{Datagram, datagram, lines_text, names_in, sent_line}
-use Rattle.world_run.specs.Served.{WroteLines}
+use Rattle.world_run.specs.declared.course.Course.{Course}
+use Rattle.world_run.specs.declared.given.Given.{Given}
+use Rattle.world_run.specs.Layouts.{IsLayoutOf}
+use Rattle.world_run.specs.Names.{AreNamesOf}
+use Rattle.world_run.specs.Served.{Did, IsCourse, WroteLines}
+
+-- ---- what is given
+
+abbrev pub said_by : Given → Semantics
+said_by given = semantics_of given.system.now
+
+-- The system can be run, and the layout and the names are of it.
+pub record IsGiven (given : Given) : Type 0 where
+  pub runnable : IsRunnable given.system.now
+  pub layout : IsLayoutOf given.system.now given.layout.now
+  pub names : AreNamesOf (said_by given) given.names.now
+
+-- ---- lines
 
 -- the text of the lines of sends; none where a message is not declared
 abbrev pub sends_text : Semantics → List Outgoing → Option (List ℕ)
@@ -28,32 +51,70 @@ pub record Wrote (expected : Option (List ℕ)) (before after : List ℕ) : Type
   pub shown : expected ≡ Some lines
   pub told : after ≡ before ++ lines
 
+-- ---- one label
+
+-- how many cells more than before a label leaves at most
+abbrev pub most_more : Label → ℕ
+most_more (label.Act p a choices) = 64
+most_more (label.Copy q p i) = 1
+most_more (label.Forge q p bytes) = 1
+most_more _ = 0
+
 -- One label was done, and its lines were written behind a text.
-pub record Did (semantics : Semantics) (l : Label) (old new : State) (before after : List ℕ) : Type 0 where
+pub record DidOne (semantics : Semantics) (l : Label) (old new : Course) (before after : List ℕ) : Type 0 where
   pub sends : List Outgoing
-  pub ran : step semantics old l ≡ Some (new, sends)
-  pub wrote : WroteLines semantics old (l ∷ []) before after
+  pub ran : step semantics old.state l ≡ Some (new.state, sends)
+  pub fits : Fits semantics new.state
+  pub cells : new.cells ≡ cells_in new.state
+  pub few : new.cells ≤ old.cells + most_more l
+  pub wrote : WroteLines semantics old.state (l ∷ []) before after
 
 -- A label was done where it is possible, and else nothing was.
-abbrev pub Tried : Semantics → Label → State → State → List ℕ → Bool → List ℕ → Type 0
-Tried semantics l old new before true after = Did semantics l old new before after
-Tried semantics l old new before false after = (step semantics old l ≡ None) × (new ≡ old) × (after ≡ before)
+abbrev pub Tried : Semantics → Label → Course → Course → List ℕ → Bool → List ℕ → Type 0
+Tried semantics l old new before true after = DidOne semantics l old new before after
+Tried semantics l old new before false after = (step semantics old.state l ≡ None) × (new ≡ old) × (after ≡ before)
 
--- A label was done where it is possible, and else nothing happened.
-abbrev pub DidOrVoid : Semantics → Label → State → State → List ℕ → List ℕ → Type 0
-DidOrVoid semantics l old new before after = Did semantics (or_void semantics old l) old new before after
+-- It leaves the cursors and the lists of errors.
+abbrev pub IsPlain : Label → Type 0
+IsPlain (label.Act p a choices) = ⊥
+IsPlain (label.Arrive q p) = ⊥
+IsPlain (label.Reject q p i) = ⊥
+IsPlain _ = Unit {0}
 
--- The label is the next enabled action of a process by its cursor, or an idle turn where none of so many is enabled.
-pub data IsNext (semantics : Semantics) (s : State) (p actions : ℕ) (old new : List Cursor) : Label → Type 0 where
-  act : {a : ℕ} → a < 2 ^ 32 → ChoosesAct semantics s p a old new → IsNext semantics s p actions old new (label.Act p a [])
-  idle : IsFirst semantics s p actions → new ≡ old → IsNext semantics s p actions old new (label.Idle p)
+-- the label of an event that is no turn
+abbrev pub label_of : Event → Label
+label_of (event.Turn p c) = label.Void
+label_of (event.Arrive q p) = label.Arrive q p
+label_of (event.Lose q p i) = label.Lose q p i
+label_of (event.Copy q p i) = label.Copy q p i
+label_of (event.Move q p i j) = label.Move q p i j
+label_of (event.Damage q p i bytes) = label.Damage q p i bytes
+label_of (event.Forge q p bytes) = label.Forge q p bytes
+label_of (event.Cut p n) = label.Cut p n
+
+-- ---- rejects
+
+-- the sender of the error at p that arrived first
+abbrev pub first_of : List (List ℕ) → ℕ → Option ℕ
+first_of errors p = slice_get errors p >>= λ senders. slice_get senders 0
+
+-- So many errors of a process were rejected, and nothing else happened.
+pub record Rejected (semantics : Semantics) (p rejects : ℕ) (old new : Course) (before after : List ℕ) : Type 0 where
+  pub labels : List Label
+  pub of_process : Each (IsRejectOf p) labels
+  pub counted : length labels ≡ rejects
+  pub did : Did semantics labels old new before after
+  pub course : IsCourse semantics new
+  pub settled : new.state.falling ≡ None
+  pub down : new.state.down ≡ old.state.down
+  pub fewer : arrived new.state p + rejects ≡ arrived old.state p
+  pub few : new.cells ≤ old.cells
+
+-- ---- actions
 
 -- how many actions a process has
 abbrev pub action_count : System → ℕ → Option ℕ
 action_count system p = option_map (λ process. length process.actions) (slice_get system.processes p)
-
-abbrev pub IsNextOf : System → Semantics → State → ℕ → List Cursor → List Cursor → Label → Type 0
-IsNextOf system semantics s p old new l = IfSome (action_count system p) (λ actions. IsNext semantics s p actions old new l)
 
 -- Of each of so many actions of a process, whether it is enabled.
 pub record AreEnabled (semantics : Semantics) (s : State) (p actions : ℕ) (enabled : List Bool) : Type 0 where
@@ -63,3 +124,22 @@ pub record AreEnabled (semantics : Semantics) (s : State) (p actions : ℕ) (ena
 -- The cursor of a process, where there is one, picks from the list; the others stay.
 abbrev pub PicksAt : List Cursor → ℕ → List Bool → Option ℕ → List Cursor → Type 0
 PicksAt old p enabled picked new = (from : Cursor) → slice_get old p ≡ Some from → (to : Cursor) × Picks from enabled picked to × (new ≡ slice_set old p to)
+
+-- The next enabled action of a process was chosen by its cursor, or none is enabled.
+abbrev pub Chose : Semantics → State → ℕ → List Cursor → Option ℕ → List Cursor → Type 0
+Chose semantics s p old (Some a) new = ChoosesAct semantics s p a old new
+Chose semantics s p old None new = ((a : ℕ) → is_enabled semantics s p a ≡ false) × (new ≡ old)
+
+-- the stop that is due where a cut fell
+abbrev pub fall_labels : Option Falling → List Label
+fall_labels None = []
+fall_labels (Some f) = label.Stop f.process f.receivers ∷ []
+
+-- A turn came to its end behind so many rejects.
+pub record Ended (semantics : Semantics) (p rejects : ℕ) (old new : Course) (before after : List ℕ) : Type 0 where
+  pub labels : List Label
+  pub ends : EndsTurn p rejects labels
+  pub did : Did semantics labels old new before after
+  pub course : IsCourse semantics new
+  pub settled : new.state.falling ≡ None
+  pub few : new.cells ≤ old.cells + 64

@@ -1,6 +1,6 @@
 use Rattle.std.proofs.Common.{◌∙◌}
 use Rattle.abstract_run.specs.inner.ComputedSemantics.{computed_semantics}
-use Rattle.abstract_run.specs.Semantics.{semantics_of}
+use Rattle.tap_exec.specs.Semantics.{semantics_of}
 use Rattle.abstract_run.proofs.SameSteps.{same_enabled}
 use Rattle.abstract_run.proofs.enabling.enabled.Goals as goal
 

@@ -1,5 +1,5 @@
 use Rattle.std.proofs.Common.{◌++◌, ◌∙◌, ap, arith, drop, sym}
-use Rattle.abstract_run.specs.Spelling.{spelling}
+use Rattle.byte_meaning.specs.Spelling.{spelling}
 use Rattle.byte_meaning.proofs.Digits.{below_bytes}
 use Rattle.byte_meaning.proofs.Spelled.{counted_as, length_all_digits}
 use Rattle.bit_codec.proofs.Bits.{encoded}

@@ -1,9 +1,9 @@
 use Rattle.std.proofs.Common.{◌≡◌, ◌++◌, ◌∙◌, ap, take, subst, arith, get_or, pos, None, unsigned_abs}
 use Rattle.std.proofs.Common.{SFits, w64, rules, pos, get_or, unsigned_abs, ◌++◌, ◌≡◌, ◌∙◌}
 use Rattle.std.proofs.lemmas.Int.{to_z-of_z}
-use Rattle.abstract_run.specs.Spelling.{digits}
+use Rattle.byte_meaning.specs.Spelling.{digits}
 use Rattle.std.proofs.lemmas.List.{length-take-le, take_all}
-use Rattle.abstract_run.specs.Spelling.{all_digits, digits}
+use Rattle.byte_meaning.specs.Spelling.{all_digits, digits}
 use Rattle.byte_meaning.proofs.Spelled.{counted_as, length_all_digits}
 use Rattle.bit_codec.specs.inner.Puts.{Puts, nothing_pending}
 use Rattle.bit_codec.proofs.Bits.{field_taken, puts_more}

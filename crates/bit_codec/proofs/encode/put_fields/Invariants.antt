@@ -1,5 +1,5 @@
 use Rattle.std.proofs.Common.{take}
-use Rattle.abstract_run.specs.Spelling.{all_digits}
+use Rattle.byte_meaning.specs.Spelling.{all_digits}
 use Rattle.bit_codec.specs.inner.Puts.{Puts, nothing_pending}
 use Rattle.bit_codec.proofs.encode.put_fields.Given as goal
 

@@ -1,5 +1,5 @@
 use Rattle.std.proofs.Common.{take, [], ◌∷◌, subst, arith, ◌-◌, ◌/◌, ◌%◌, ◌^◌}
-use Rattle.abstract_run.specs.Spelling.{digits}
+use Rattle.byte_meaning.specs.Spelling.{digits}
 use Rattle.bit_codec.specs.inner.Puts.{Puts}
 use Rattle.bit_codec.proofs.Bits.{puts_more, digit_taken, digits_taken, length_digits_taken}
 use Rattle.bit_codec.proofs.writer.put_number.Goals as goal

@@ -1,5 +1,5 @@
 use Rattle.std.proofs.Common.{take}
-use Rattle.abstract_run.specs.Spelling.{digits}
+use Rattle.byte_meaning.specs.Spelling.{digits}
 use Rattle.bit_codec.specs.inner.Puts.{Puts}
 use Rattle.bit_codec.proofs.writer.put_number.Given as goal
 

@@ -1,5 +1,5 @@
 use Rattle.std.proofs.Common.{◌≡◌, drop, flat_map}
-use Rattle.abstract_run.specs.Semantics.{guard_semantics, messages_of}
+use Rattle.tap_exec.specs.Semantics.{guard_semantics, messages_of}
 use Rattle.byte_meaning.specs.Reading.{heard_by, meaning_among}
 use Rattle.byte_meaning.proofs.messages.first_heard.Given as goal
 

@@ -1,5 +1,5 @@
 use Rattle.std.proofs.Common.{◌++◌, Some, map}
-use Rattle.abstract_run.specs.Spelling.{digits}
+use Rattle.byte_meaning.specs.Spelling.{digits}
 use Rattle.message_layout.proofs.Marks.{next_digit}
 use Rattle.message_layout.proofs.shapes.push_digits.Goals as goal
 

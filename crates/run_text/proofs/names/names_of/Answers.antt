@@ -1,7 +1,7 @@
 use Rattle.std.proofs.Common.{arith, map}
 use Rattle.std.proofs.lemmas.Grind.{common_steps}
 use Rattle.std.proofs.lemmas.Simd.{map-map}
-use Rattle.abstract_run.specs.Semantics.{messages_of, process_semantics}
+use Rattle.tap_exec.specs.Semantics.{messages_of, process_semantics}
 use Rattle.run_text.specs.TraceText.{var_name}
 use Rattle.run_text.proofs.names.names_of.Goals as goal
 

@@ -1,24 +1,27 @@
-use Rattle.std.proofs.Common.{◌≡◌, ◌+◌, ◌<◌, ◌≤◌, ◌^◌, ◌∙◌, ℕ, List, [], Option, Result, Ok, Err, length, refl, ap, sym, subst, arith, rules}
+use Rattle.std.proofs.Common.{◌≡◌, ◌⊎◌, ◌+◌, ◌<◌, ◌≤◌, ◌^◌, ◌∙◌, ℕ, List, [], Option, Some, Result, Ok, Err, length, refl, ap, sym, subst, arith, rules}
+use Rattle.std.specs.Option.{MatchOption, OnSome}
 use Rattle.std.specs.Result.{IsErrAnd}
 use Rattle.std.proofs.lemmas.List.{length-map}
 use Rattle.tap_base.specs.declared.system.System.{System}
-use Rattle.abstract_run.specs.Semantics.{messages_of, process_semantics, semantics_of}
+use Rattle.tap_exec.specs.Semantics.{Semantics, messages_of, process_semantics, semantics_of}
+use Rattle.abstract_run.specs.CellCount.{cells_in}
+use Rattle.abstract_run.specs.Runnable.{IsRunnable}
 use Rattle.abstract_run.specs.declared.label.Event.{Event}
+use Rattle.abstract_run.specs.declared.label.Event.TheVariants as event
 use Rattle.abstract_run.specs.declared.state.State.{State}
-use Rattle.guard_scheduler.specs.Cursor.{Cursor}
-use Rattle.exact_choice.specs.Choice.{AreCursorsOf}
-use Rattle.exact_choice.proofs.Cursors.{cursors_opened}
 use Rattle.run_text.specs.Names.{AreNames}
-use Rattle.run_text.specs.ScheduleText.{IsFirstLine, IsListed, SpellsEvent, most_events}
+use Rattle.run_text.specs.ScheduleText.{HasLine, IsFirstLine, IsLineOf, IsOfNoEvent, most_events}
 use Rattle.run_text.specs.TraceText.{names_in}
 use Rattle.tapc_core.specs.declared.lines.Stop.TheVariants as stop
-use Rattle.tapc_core.specs.inner.Playing.{Broken, Plays}
+use Rattle.tapc_core.specs.inner.Playing.{Broken, IsNext, Plays, Progress, stopped_by}
 use Rattle.tapc_core.proofs.Steps.{Goes, first_line_taken, goes_more, goes_moved, goes_start}
 use Rattle.tapc_core.proofs.lines.play_lines.Goals as goal
-use Rattle.abstract_run.specs.Runnable.{IsRunnable}
-use Rattle.world_run.specs.Layouts.{IsLayoutOf}
+use Rattle.world_run.specs.declared.course.Course.{Course}
+use Rattle.world_run.specs.declared.fault.WorldFault.{WorldFault}
+use Rattle.world_run.specs.declared.fault.WorldFault.TheVariants as world_fault
+use Rattle.world_run.specs.declared.world.World.{World}
 use Rattle.world_run.specs.Names.{AreNamesOf}
-use Rattle.world_run.specs.Served.{IsSteady, Served}
+use Rattle.world_run.specs.Served.{Answers, GoesOn, NamesProcesses, Served, full_from}
 
 -- as many names as processes
 pub names_counted : (system : System) → length (names_in (semantics_of system)) ≡ length system.processes
@@ -27,28 +30,58 @@ names_counted system = length-map (semantics_of system).processes (λ p. p.name)
 few_names : (system : System) (names : List (List ℕ)) → IsRunnable system → names ≡ names_in (semantics_of system) → length names < 2 ^ 32
 few_names system names runnable e = let n = ap length e in let few = runnable.safe.begins.few in omega (arith, n, few, length-map (semantics_of system).processes (λ p. p.name))
 
-listed_here : (system : System) (names : List (List ℕ)) (line : List ℕ) (e : Event) → names ≡ names_in (semantics_of system) → SpellsEvent names line e → IsListed (length system.processes) e
-listed_here system names line e same h = subst (λ n. IsListed n e) (ap length same ∙ names_counted system) h.0
+-- an event that has a line names processes
+named : (n : ℕ) (e : Event) → HasLine n e → NamesProcesses n e
+named n (event.Turn p c) h = h.0
+named n (event.Arrive q p) h = h
+named n (event.Lose q p i) h = h.0
+named n (event.Copy q p i) h = h.0
+named n (event.Move q p i j) h = h.0
+named n (event.Damage q p i bytes) h = (h.0, h.2)
+named n (event.Forge q p bytes) h = (h.0, h.1)
+named n (event.Cut p k) h = h.0
+
+named_here : (system : System) (names : List (List ℕ)) (line : List ℕ) (e : Event) → names ≡ names_in (semantics_of system) → IsLineOf names line e → NamesProcesses (length system.processes) e
+named_here system names line e same h = subst (λ n. NamesProcesses n e) (ap length same ∙ names_counted system) (named (length names) e h.0)
+
+-- the line of the event that was found, and how many events come before it
+line_found : (names : List (List ℕ)) (line : List ℕ) (number : ℕ) (found : Option Event) (e : Event) → found ≡ Some e
+    → MatchOption found ((most_events < number) ⊎ IsOfNoEvent names line) (λ x. IsLineOf names line x) → OnSome found (number ≤ most_events) → IsLineOf names line e × (number ≤ most_events)
+line_found names line number found e is spells few =
+    let held : MatchOption (Some e) ((most_events < number) ⊎ IsOfNoEvent names line) (λ x. IsLineOf names line x) = subst (λ o. MatchOption o ((most_events < number) ⊎ IsOfNoEvent names line) (λ x. IsLineOf names line x)) is spells in
+    let within : OnSome (Some e) (number ≤ most_events) = subst (λ o. OnSome o (number ≤ most_events)) is few in
+    (held, within)
+
+-- the cells that a world counts
+in_room : (w : World) → GoesOn w → w.course.cells ≤ full_from → cells_in w.course.state ≤ full_from
+in_room w on few = let same = on.steady.whole.cells in omega (arith, same, few)
 
 -- a line was served by the system of the run
-served_line : {system own : System} {start : State} {schedule rest line tail : List ℕ} {number : ℕ} {s t : State} {cursors later : List Cursor} {before now : Option (List ℕ)} {page after : List ℕ} {e : Event}
-    {names : List (List ℕ)} → own ≡ system → names ≡ names_in (semantics_of system) → number ≤ most_events → Goes (semantics_of system) start schedule rest number s cursors before now page → (rest ≡ [] → ⊥)
-    → IsFirstLine rest line tail → SpellsEvent names line e → Served (semantics_of own) e s t cursors later page after → Goes (semantics_of system) start schedule tail (number + 1) t later before now after
-served_line {line = line} {s = s} {t = t} {cursors = cursors} {later = later} {page = page} {after = after} {e = e} same is few g some first spells served =
-    goes_more few g some first (subst (λ n. SpellsEvent n line e) is spells) (subst (λ x. Served (semantics_of x) e s t cursors later page after) same served)
+served_line : {system own : System} {start : State} {schedule rest line tail : List ℕ} {number : ℕ} {old new : Course} {before now : Option (List ℕ)} {page after : List ℕ} {e : Event}
+    {names : List (List ℕ)} → own ≡ system → names ≡ names_in (semantics_of system) → number ≤ most_events → Goes (semantics_of system) start schedule rest number old before now page → (rest ≡ [] → ⊥)
+    → IsFirstLine rest line tail → IsLineOf names line e → cells_in old.state ≤ full_from → Served (semantics_of own) e old new page after → Goes (semantics_of system) start schedule tail (number + 1) new before now after
+served_line {line = line} {old = old} {new = new} {page = page} {after = after} {e = e} same is few g some first spells room served =
+    goes_more few g some first (subst (λ n. IsLineOf n line e) is spells) room (subst (λ x. Served (semantics_of x) e old new page after) same served)
+
+-- an event that was not served stops the playing where it is
+stopped : {m : Semantics} {start : State} {schedule rest : List ℕ} {number : ℕ} {old : Course} {before now : Option (List ℕ)} {page : List ℕ} (new : Course) (after : List ℕ) (e : Event)
+    (fault : WorldFault) → IsNext (names_in m) rest number → Goes m start schedule rest number old before now page → Answers m e old page (Err fault) new after
+    → Plays m start schedule before (Err (stopped_by fault)) new.state now after
+stopped {m = m} {start = start} {schedule = schedule} {rest = rest} {number = number} {before = before} {now = now} {page = page} new after e (world_fault.Full cells) next g h =
+    let here = subst (λ (x : Course). Progress m start schedule rest number x.state before now page) (sym h.2) g.progress in
+    (rest, number, next, h.0, h.1 ∙ ap (λ (x : Course). cells_in x.state) (sym h.2), subst (λ p. Progress m start schedule rest number new.state before now p) (sym h.3) here)
+stopped {m = m} {start = start} {schedule = schedule} {rest = rest} {number = number} {old = old} {before = before} {now = now} new after e world_fault.NoMemory next g h =
+    (rest, number, old.state, subst (λ p. Progress m start schedule rest number old.state before now p) (sym h.1) g.progress)
 
 pub loop-rest-smaller : goal.loop-rest-smaller
 loop-rest-smaller g c = first_line_taken c.loop-rest.rest.now _ c.first_line.result.1.now (search rules) c.first_line.ensures.first
 
 pub loop-rest-init : goal.loop-rest-init
 loop-rest-init g c = record {
-  going = rw (c.requires.empty, c.requires.opened) (goes_start _ _ _ _);
+  going = rw c.requires.empty (goes_start _ _ _ _ c.requires.opened c.requires.no_errors);
   same = refl;
-  layout = refl;
-  steady = c.requires.steady;
-  cursors = rw c.requires.opened (cursors_opened (semantics_of c.args.world.now.system));
+  goes_on = c.requires.goes_on;
   kept = refl;
-  cells = omega (arith, c.requires.no_cells);
   counted = omega arith;
   short = omega arith;
 }
@@ -57,43 +90,70 @@ pub numbered_event-requires-clause-apart : goal.numbered_event-requires-clause-a
 numbered_event-requires-clause-apart g c = subst AreNames (sym c.requires.names.processes) c.requires.apart
 
 pub numbered_event-requires-clause-few : goal.numbered_event-requires-clause-few
-numbered_event-requires-clause-few g c = few_names c.args.world.now.system c.args.names.now.processes c.requires.runnable c.requires.names.processes
-
-pub serve-requires-clause-runnable : goal.serve-requires-clause-runnable
-serve-requires-clause-runnable g c = subst IsRunnable (sym c.loop-rest.invariant.same) c.requires.runnable
-
-pub serve-requires-clause-layout : goal.serve-requires-clause-layout
-serve-requires-clause-layout g c = subst (λ x. IsLayoutOf c.loop-rest.world.system x) (sym c.loop-rest.invariant.layout) (subst (λ x. IsLayoutOf x c.args.world.now.layout) (sym c.loop-rest.invariant.same) c.requires.layout)
+numbered_event-requires-clause-few g c = few_names c.args.world.now.system c.args.names.now.processes c.requires.goes_on.runnable c.requires.names.processes
 
 pub serve-requires-clause-names : goal.serve-requires-clause-names
 serve-requires-clause-names g c = subst (λ x. AreNamesOf (semantics_of x) c.args.names.now) (sym c.loop-rest.invariant.same) c.requires.names
 
-pub serve-requires-clause-steady : goal.serve-requires-clause-steady
-serve-requires-clause-steady g c = subst (λ x. IsSteady (semantics_of x) c.loop-rest.world.state) (sym c.loop-rest.invariant.same) c.loop-rest.invariant.steady
+pub serve-requires-clause-named : goal.serve-requires-clause-named
+serve-requires-clause-named g c =
+    subst (λ x. NamesProcesses (length x.processes) c.in-Some.event) (sym c.loop-rest.invariant.same)
+    (named_here c.args.world.now.system c.args.names.now.processes _ c.in-Some.event c.requires.names.processes (line_found c.args.names.now.processes _ c.loop-rest.number c.in_ok-event.field-0 c.in-Some.event c.in-Some.is c.in_ok-event.ensures.event c.in_ok-event.ensures.within).0)
 
-pub serve-requires-clause-cursors : goal.serve-requires-clause-cursors
-serve-requires-clause-cursors g c = subst (λ x. AreCursorsOf (semantics_of x) c.loop-rest.world.turnstiles) (sym c.loop-rest.invariant.same) c.loop-rest.invariant.cursors
+pub loop-rest-preserved-in_ok-put_full_page : goal.loop-rest-preserved-in_ok-put_full_page
+loop-rest-preserved-in_ok-put_full_page g c =
+    let some : c.loop-rest.rest.now ≡ [] → ⊥ = search rules in
+    let shorter = first_line_taken c.loop-rest.rest.now _ c.first_line.result.1.now some c.first_line.ensures.first in
+    let found = line_found c.args.names.now.processes _ c.loop-rest.number c.in_ok-event.field-0 c.in-Some.event c.in-Some.is c.in_ok-event.ensures.event c.in_ok-event.ensures.within in
+    let few = found.1 in
+    let moves = c.in_ok-put_full_page.ensures.moves in
+    let inv = c.loop-rest.invariant in
+    let served = c.in_ok-serve.ensures.answers in
+    let room = in_room c.loop-rest.world inv.goes_on served.0 in
+    record {
+      going = goes_moved (served_line inv.same c.requires.names.processes few inv.going some c.first_line.ensures.first found.0 room served.1) moves.0 moves.1 moves.2;
+      same = c.in_ok-serve.ensures.system ∙ inv.same;
+      goes_on = c.in_ok-serve.ensures.goes_on;
+      kept = c.in_ok-put_full_page.ensures.cause.kept ∙ inv.kept;
+      counted = omega (arith, few);
+      short = omega arith;
+    }
 
-pub serve-requires-clause-listed : goal.serve-requires-clause-listed
-serve-requires-clause-listed g c =
-    subst (λ x. IsListed (length x.processes) c.in-Some.event) (sym c.loop-rest.invariant.same)
-    (listed_here c.args.world.now.system c.args.names.now.processes _ c.in-Some.event c.requires.names.processes c.in-Some.ensures.event)
+pub loop-rest-preserved-in_ok-put_full_page-2 : goal.loop-rest-preserved-in_ok-put_full_page-2
+loop-rest-preserved-in_ok-put_full_page-2 g c =
+    let some : c.loop-rest.rest.now ≡ [] → ⊥ = search rules in
+    let shorter = first_line_taken c.loop-rest.rest.now _ c.first_line.result.1.now some c.first_line.ensures.first in
+    let found = line_found c.args.names.now.processes _ c.loop-rest.number c.in_ok-event.field-0 c.in-Some.event c.in-Some.is c.in_ok-event.ensures.event c.in_ok-event.ensures.within in
+    let few = found.1 in
+    let moves = c.in_ok-put_full_page.ensures.moves in
+    let inv = c.loop-rest.invariant in
+    let served = c.in_ok-serve.ensures.answers in
+    let room = in_room c.loop-rest.world inv.goes_on served.0 in
+    record {
+      going = goes_moved (served_line inv.same c.requires.names.processes few inv.going some c.first_line.ensures.first found.0 room served.1) moves.0 moves.1 moves.2;
+      same = c.in_ok-serve.ensures.system ∙ inv.same;
+      goes_on = c.in_ok-serve.ensures.goes_on;
+      kept = c.in_ok-put_full_page.ensures.cause.kept ∙ inv.kept;
+      counted = omega (arith, few);
+      short = omega arith;
+    }
 
 pub loop-rest-preserved : goal.loop-rest-preserved
 loop-rest-preserved g c =
     let some : c.loop-rest.rest.now ≡ [] → ⊥ = search rules in
     let shorter = first_line_taken c.loop-rest.rest.now _ c.first_line.result.1.now some c.first_line.ensures.first in
+    let found = line_found c.args.names.now.processes _ c.loop-rest.number c.in_ok-event.field-0 c.in-Some.event c.in-Some.is c.in_ok-event.ensures.event c.in_ok-event.ensures.within in
+    let few = found.1 in
     let moves = c.in_ok-put_full_page.ensures.moves in
     let inv = c.loop-rest.invariant in
+    let served = c.in_ok-serve.ensures.answers in
+    let room = in_room c.loop-rest.world inv.goes_on served.0 in
     record {
-      going = goes_moved (served_line inv.same c.requires.names.processes c.in-Some.ensures.within inv.going some c.first_line.ensures.first c.in-Some.ensures.event c.in_ok-serve.ensures.served) moves.0 moves.1 moves.2;
+      going = goes_moved (served_line inv.same c.requires.names.processes few inv.going some c.first_line.ensures.first found.0 room served.1) moves.0 moves.1 moves.2;
       same = c.in_ok-serve.ensures.system ∙ inv.same;
-      layout = c.in_ok-serve.ensures.layout ∙ inv.layout;
-      steady = subst (λ x. IsSteady (semantics_of x) c.serve.new.self.state) inv.same c.in_ok-serve.ensures.steady;
-      cursors = subst (λ x. AreCursorsOf (semantics_of x) c.serve.new.self.turnstiles) inv.same c.in_ok-serve.ensures.cursors;
+      goes_on = c.in_ok-serve.ensures.goes_on;
       kept = c.in_ok-put_full_page.ensures.cause.kept ∙ inv.kept;
-      cells = omega (arith, inv.cells, c.in_ok-serve.ensures.cells);
-      counted = omega (arith, c.in-Some.ensures.within);
+      counted = omega (arith, few);
       short = omega arith;
     }
 
@@ -108,8 +168,11 @@ returns-in_err-put_full_page-clause-plays g c =
     let moves = c.in_err-put_full_page.ensures.moves in
     let inv = c.loop-rest.invariant in
     let m = semantics_of c.args.world.now.system in
-    let progress = (served_line inv.same c.requires.names.processes c.in-Some.ensures.within inv.going some c.first_line.ensures.first c.in-Some.ensures.event c.in_ok-serve.ensures.served).progress in
-    let broken : Broken m c.args.world.now.state c.args.schedule.now (g.O.Sink.written c.args.out.now) (g.O.Sink.written c.put_full_page.new.out) =
+    let served = c.in_ok-serve.ensures.answers in
+    let room = in_room c.loop-rest.world inv.goes_on served.0 in
+    let found = line_found c.args.names.now.processes _ c.loop-rest.number c.in_ok-event.field-0 c.in-Some.event c.in-Some.is c.in_ok-event.ensures.event c.in_ok-event.ensures.within in
+    let progress = (served_line inv.same c.requires.names.processes found.1 inv.going some c.first_line.ensures.first found.0 room served.1).progress in
+    let broken : Broken m c.args.world.now.course.state c.args.schedule.now (g.O.Sink.written c.args.out.now) (g.O.Sink.written c.put_full_page.new.out) =
     record {
       rest = _;
       number = _;
@@ -122,5 +185,24 @@ returns-in_err-put_full_page-clause-plays g c =
       cut = moves.2;
       told = moves.3;
     } in
-    subst (λ r. Plays m c.args.world.now.state c.args.schedule.now (g.O.Sink.written c.args.out.now) r c.serve.new.self.state (g.O.Sink.written c.put_full_page.new.out) c.put_full_page.new.page.items)
+    subst (λ r. Plays m c.args.world.now.course.state c.args.schedule.now (g.O.Sink.written c.args.out.now) r c.serve.new.self.course.state (g.O.Sink.written c.put_full_page.new.out) c.put_full_page.new.page.items)
     (sym (err_is c.from_residual-in_err-put_full_page.result stop.Failed c.from_residual-in_err-put_full_page.ensures.1)) broken
+
+pub returns-in_err-serve-clause-plays : goal.returns-in_err-serve-clause-plays
+returns-in_err-serve-clause-plays g c =
+    let some : c.loop-rest.rest.now ≡ [] → ⊥ = search rules in
+    let inv = c.loop-rest.invariant in
+    let m = semantics_of c.args.world.now.system in
+    let found = line_found c.args.names.now.processes _ c.loop-rest.number c.in_ok-event.field-0 c.in-Some.event c.in-Some.is c.in_ok-event.ensures.event c.in_ok-event.ensures.within in
+    let next : IsNext (names_in m) c.loop-rest.rest.now c.loop-rest.number = record {
+      some = some;
+      line = _;
+      behind = _;
+      first = c.first_line.ensures.first;
+      event = c.in-Some.event;
+      is = subst (λ n. IsLineOf n c.first_line.result.0.now c.in-Some.event) c.requires.names.processes found.0;
+      few = found.1;
+    } in
+    let answers = subst (λ (x : System). Answers (semantics_of x) c.in-Some.event c.loop-rest.world.course c.loop-rest.page.items (Err c.in_err-serve.field-0.0) c.serve.new.self.course c.serve.new.page.items) inv.same c.in_err-serve.ensures.answers in
+    subst (λ r. Plays m c.args.world.now.course.state c.args.schedule.now (g.O.Sink.written c.args.out.now) r c.serve.new.self.course.state (g.O.Sink.written c.loop-rest.out) c.serve.new.page.items)
+    (sym (err_is c.from_residual-in_err-serve.result (stopped_by c.in_err-serve.field-0.0) c.from_residual-in_err-serve.ensures.1)) (stopped c.serve.new.self.course c.serve.new.page.items c.in-Some.event c.in_err-serve.field-0.0 next inv.going answers)

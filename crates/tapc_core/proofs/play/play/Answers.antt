@@ -1,6 +1,6 @@
 use Rattle.std.proofs.Common.{ap, subst, sym, ◌∙◌}
 use Rattle.abstract_run.specs.Opening.{opening_state}
-use Rattle.abstract_run.specs.Semantics.{semantics_of}
+use Rattle.tap_exec.specs.Semantics.{semantics_of}
 use Rattle.tapc_core.specs.commands.World.{OfWorld}
 use Rattle.tapc_core.specs.inner.Playing.{AreOf}
 use Rattle.tapc_core.proofs.Outputs.{closes_alone, refused_memory}

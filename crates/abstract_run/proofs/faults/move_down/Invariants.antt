@@ -1,0 +1,9 @@
+use Rattle.std.proofs.Common.{◌≡◌, ◌-◌, Some, length, slice_get}
+use Rattle.std.specs.List.{insert, remove}
+use Rattle.byte_meaning.specs.declared.cell.Cell.{Cell}
+use Rattle.abstract_run.proofs.faults.move_down.Given as goal
+
+abbrev pub invariant-loop-step : goal.invariant-loop-step
+invariant-loop-step l =
+    (length l.cells-inside.items.items ≡ length l.fn.cells)
+    × ((x : Cell) → slice_get l.fn.cells l.fn.from ≡ Some x → l.cells-inside.items.items ≡ insert (remove l.fn.cells l.fn.from) (l.fn.from - l.step) x)

@@ -1,0 +1,4 @@
+mod AllDrawn
+pub mod Grown
+pub mod Statements
+pub mod Trees

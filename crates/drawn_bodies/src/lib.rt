@@ -1,0 +1,6 @@
+//! The choices of a body can be drawn, in a system that is judged right: each option leads on to the body's end.
+#![tactic(auto)]
+
+mod laws;
+
+pub use laws::bodies_are_drawn;

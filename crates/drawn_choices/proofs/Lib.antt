@@ -1,0 +1,4 @@
+pub mod MoreDrawn
+pub mod OneDrawn
+mod WorkedDraws
+pub mod Words

@@ -1,0 +1,3 @@
+pub mod WorkedFaults
+pub mod WorkedRuns
+pub mod WorkedSends

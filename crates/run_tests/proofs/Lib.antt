@@ -1,2 +1,0 @@
-mod LaidOut
-mod Named

@@ -1,0 +1,4 @@
+pub mod EntryBack
+pub mod EntryLines
+pub mod TailFacts
+pub mod Vars

@@ -1,0 +1,5 @@
+pub mod BothWays
+pub mod Entries
+pub mod LineNames
+pub mod Tails
+pub mod inner
