@@ -1,8 +1,8 @@
 """Each limit of the language, at its border on both sides.
 
-At the border a text is accepted, and with an empty schedule its variables and the end are written, or `world` refuses
-it S0, since it may ask for a choice. One step further it is refused by both commands, at the place that the mark ^
-shows. The limits are proved as definitions; that the numbers of the manual are those is not.
+At the border a text is accepted, and with an empty schedule its variables and the end are written. One step further it
+is refused by both commands, at the place that the mark ^ shows. The limits are proved as definitions; that the numbers
+of the manual are those is not.
 """
 import os
 import re
@@ -11,8 +11,6 @@ import tempfile
 from lib.program import Cases, run, write
 
 ACCEPTED = "accepted"
-CHOOSING = "accepted, and not run"
-OUTSIDE = "refused S0 1:1"
 TOO_LONG = "refused L0 1:1"
 END = " begin end"
 
@@ -109,33 +107,33 @@ def named(front, back):
     return lambda length: front + "^" + "n" * length + back
 
 
-# What is limited, the texts by their number, the limit, what is told of the text at it, and of the one behind it.
+# What is limited, the texts by their number, the limit, and what is told of the text behind it.
 LIMITS = [
-    ("processes", processes, 64, ACCEPTED, "X1"),
-    ("messages", messages, 256, ACCEPTED, "X1"),
-    ("fields of a message", fields, 256, ACCEPTED, "X1"),
-    ("inputs of a process", inputs, 256, ACCEPTED, "X1"),
-    ("variables of a process", variables, 4096, ACCEPTED, "X1"),
-    ("cells of an array", array, 4096, ACCEPTED, "X1"),
-    ("cells of a process", behind_an_array, 4096, ACCEPTED, "X1"),
-    ("timers of a process", timers, 32, ACCEPTED, "X1"),
-    ("actions of a process", actions, 256, ACCEPTED, "X1"),
-    ("turns of a loop", turns, 65536, ACCEPTED, "X1"),
-    ("values of a choice", chosen, 2**32, CHOOSING, "X1"),
-    ("values of a choice of a cell", chosen_of_cells, 2**32, CHOOSING, "X1"),
-    ("bytes of a message's name", named("message ", " begin f : 8 bits end process a" + END), 64, ACCEPTED, "X1"),
-    ("bytes of a field's name", named("message m begin ", " : 8 bits end process a" + END), 64, ACCEPTED, "X1"),
-    ("bytes of a process's name", named("process ", END), 64, ACCEPTED, "X1"),
-    ("bytes of a constant's name", named("process a const ", " = 1" + END), 64, ACCEPTED, "X1"),
-    ("bytes of an input's name", named("process a inp ", " : boolean" + END), 64, ACCEPTED, "X1"),
-    ("bytes of a variable's name", named("process a var ", " : boolean" + END), 64, ACCEPTED, "X1"),
-    ("bytes of a timer's name", named("process a timer ", END), 64, ACCEPTED, "X1"),
-    ("bits of a field", width, 63, ACCEPTED, "X2"),
-    ("a fixed value of 8 bits", fixed, 255, ACCEPTED, "X2"),
-    ("bytes of a message", size_of_message, 1024, ACCEPTED, "M1"),
-    ("cost of an action", cost, 1_000_000, ACCEPTED, "W6"),
-    ("sends of an action", sends, 64, ACCEPTED, "W7"),
-    ("bytes of a text", size, 1048576, ACCEPTED, "L0"),
+    ("processes", processes, 64, "X1"),
+    ("messages", messages, 256, "X1"),
+    ("fields of a message", fields, 256, "X1"),
+    ("inputs of a process", inputs, 256, "X1"),
+    ("variables of a process", variables, 4096, "X1"),
+    ("cells of an array", array, 4096, "X1"),
+    ("cells of a process", behind_an_array, 4096, "X1"),
+    ("timers of a process", timers, 32, "X1"),
+    ("actions of a process", actions, 256, "X1"),
+    ("turns of a loop", turns, 65536, "X1"),
+    ("values of a choice", chosen, 2**32, "X1"),
+    ("values of a choice of a cell", chosen_of_cells, 2**32, "X1"),
+    ("bytes of a message's name", named("message ", " begin f : 8 bits end process a" + END), 64, "X1"),
+    ("bytes of a field's name", named("message m begin ", " : 8 bits end process a" + END), 64, "X1"),
+    ("bytes of a process's name", named("process ", END), 64, "X1"),
+    ("bytes of a constant's name", named("process a const ", " = 1" + END), 64, "X1"),
+    ("bytes of an input's name", named("process a inp ", " : boolean" + END), 64, "X1"),
+    ("bytes of a variable's name", named("process a var ", " : boolean" + END), 64, "X1"),
+    ("bytes of a timer's name", named("process a timer ", END), 64, "X1"),
+    ("bits of a field", width, 63, "X2"),
+    ("a fixed value of 8 bits", fixed, 255, "X2"),
+    ("bytes of a message", size_of_message, 1024, "M1"),
+    ("cost of an action", cost, 1_000_000, "W6"),
+    ("sends of an action", sends, 64, "W7"),
+    ("bytes of a text", size, 1048576, "L0"),
 ]
 # What has no limit but that of the text.
 FREE = [("constants of a process", constants(5000))]
@@ -163,18 +161,15 @@ def main():
             status, written = run("check", system)
             again, lines = run("world", system, schedule, *settings(text))
             line = written.decode().split("\n")[0]
-            if line == ACCEPTED and (again, lines.decode()) == (1, OUTSIDE + "\n"):
-                line = CHOOSING
-                cases.hold(status == 0, f"{line}: check ends with {status}")
-            elif line == ACCEPTED:
+            if line == ACCEPTED:
                 cases.hold((status, again) == (0, 0) and lines.endswith(b"end\n"), f"accepted, and not run: {again}")
             else:
                 cases.hold((status, again, lines) == (1, 1, written), f"{line}: world writes {lines[:60]!r}, {again}")
             return line
 
-        for what, text_of, most, within, code in LIMITS:
+        for what, text_of, most, code in LIMITS:
             line = told(unmarked(text_of(most))[0])
-            cases.hold(line == within, f"{what}: {line}, and at the limit {within} is due")
+            cases.hold(line == ACCEPTED, f"{what}: {line}, and at the limit {ACCEPTED} is due")
             text, place = unmarked(text_of(most + 1))
             line, due = told(text), f"refused {code} {place}"
             cases.hold(line == due, f"{what}: {line}, and beyond the limit {due} is due")

@@ -20,6 +20,7 @@ COMMANDS = [
     ["world", "examples/hello/hello.tap", "examples/hello/hello.sch", "a.number=42"],
     ["world", "examples/hello/hello.tap", "examples/hello/hello.sch", "a.number=256"],
     ["world", "examples/hello/hello.tap", "examples/hello/hello.sch", "a.number"],
+    ["world", "examples/draws/draws.tap", "examples/draws/draws.sch", "seed=1"],
     ["check", "examples/refused/s1_missing_arrow.tap"],
     ["check", "examples/refused/m3_received_from_another_process.tap"],
     ["check", "examples/no-such-file"],

@@ -1,6 +1,6 @@
 #!/usr/bin/env bash
-# Each examples/refused/CODE_CAUSE.tap is refused by check and by world with the line in CODE_CAUSE.out. Where the
-# code is S0, check accepts it; so it does where there is a CODE_CAUSE.settings, and world refuses these settings.
+# Each examples/refused/CODE_CAUSE.tap is refused by check and by world with the line in CODE_CAUSE.out. Where there is
+# a CODE_CAUSE.settings, check accepts it, and world refuses these settings.
 # Text and settings are judged before the schedule is opened: where that is not there, or is a folder, the answer is
 # the same. The proofs speak of stores that tell what they hold, and the disk does not.
 . tests/lib/cases.sh
@@ -9,8 +9,6 @@ for text in examples/refused/*.tap; do
     settings=()
     if [ -f "${text%.tap}.settings" ]; then
         read -ra settings <"${text%.tap}.settings"
-        accepts "$text"
-    elif [[ $text == */s0_* ]]; then
         accepts "$text"
     else
         writes 1 "${text%.tap}.out" check "$text"

@@ -27,6 +27,15 @@ for word in '' a a.x x=1 a.x= a.x=01 a.x=-0 a.x=+1 'a.x=1 ' a.x=9223372036854775
     says 2 "$usage" world $text $schedule "$word"
     says 2 "$usage" world $text $schedule a.x=1 "$word"
 done
+for word in seed seed= seed=-1 seed=01 seed=+1 'seed=1 ' Seed=1 seed=1=1 seed=18446744073709551616; do
+    says 2 "$usage" world $text $schedule "$word"
+done
+for seed in 0 1 18446744073709551615; do
+    writes 0 examples/ping/ping.out world $text $schedule seed=$seed
+    says 2 "$usage" world $text $schedule seed=$seed seed=$seed
+    says 2 "$usage" world $text $schedule seed=$seed a.x seed=2
+    says 2 "$usage" check $text seed=$seed
+done
 for word in '' -h --help --version help compile node replay make soak; do
     says 2 "$usage" "$word"
     says 2 "$usage" "$word" $text

@@ -7,7 +7,7 @@ use Rattle.tap_base.specs.Lists.{Each}
 use Rattle.tap_base.specs.Option.{◌>>=◌, is_yes, provided}
 use Rattle.tap_base.specs.Ranges.{AreAllIn, AreIn, ranges_of}
 use Rattle.tap_base.proofs.ListFacts.{both_at, each_at, each_set, element_beside, element_alike}
-use Rattle.tap_exec.specs.declared.running.Running.{Running}
+use Rattle.tap_exec.specs.Running.{Running}
 use Rattle.tap_exec.specs.declared.running.TimerState.{TimerState}
 use Rattle.tap_exec.specs.declared.running.TimerState.TheVariants as timer
 use Rattle.byte_meaning.specs.declared.cell.Cell.{Cell}
@@ -20,7 +20,8 @@ use Rattle.abstract_run.specs.Fits.{Fits, IsFitCell, IsFitTimer}
 use Rattle.byte_meaning.specs.Messages.{AreReceived, AreValuesOf}
 use Rattle.abstract_run.specs.Safe.{IsBeginning, IsFitRunning}
 use Rattle.tap_exec.specs.Semantics.{ActionSemantics, GuardSemantics, InputSemantics, ProcessSemantics, Semantics, input_ranges, local, receive, timeout}
-use Rattle.abstract_run.specs.Step.{body_run, channels_at, is_empty, received, timers_at}
+use Rattle.tap_exec.specs.Execution.{is_empty}
+use Rattle.abstract_run.specs.Step.{body_run, channels_at, received, timers_at}
 use Rattle.abstract_run.proofs.Found.{waiting_cell}
 use Rattle.abstract_run.proofs.Taken.{can_take}
 

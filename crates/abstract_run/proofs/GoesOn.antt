@@ -1,14 +1,15 @@
--- Where bodies keep ranges and need no choice, an enabled action has a step. Readings go on, and so does a stop that is due.
-use Rattle.std.proofs.Common.{◌≡◌, ◌+◌, ◌<◌, ◌≤◌, ℕ, ℤ, Bool, true, not, List, [], ◌∷◌, ◌++◌, length, refl, ap, sym, ◌∙◌, slice_get, Option, Some, None, IfSome, IsSome, arith}
+-- Where bodies keep ranges, an enabled action has a step with choices that lead its body to its end. Readings go on, and so does a stop that is due.
+use Rattle.std.proofs.Common.{◌≡◌, ◌+◌, ◌<◌, ◌≤◌, ℕ, ℤ, Bool, true, not, List, [], ◌∷◌, length, refl, sym, ◌∙◌, slice_get, Option, Some, None, IfSome, IsSome, arith}
+use Rattle.std.specs.Prelude.{is_some}
 use Rattle.std.specs.Option.{option_map}
 use Rattle.std.proofs.lemmas.Bool.{eq-eqb}
 use Rattle.std.proofs.lemmas.Option.{option_and_then_some, slice_get_within}
 use Rattle.std.proofs.lemmas.Slice.Eq.{bytes_eq-Decides}
 use Rattle.tap_base.specs.Lists.{Each}
-use Rattle.tap_base.specs.Option.{◌>>=◌, is_yes, provided}
+use Rattle.tap_base.specs.Option.{◌>>=◌, is_yes}
 use Rattle.tap_base.proofs.ListFacts.{each_weaker, element_beside}
 use Rattle.tap_exec.specs.declared.running.Outgoing.{Outgoing}
-use Rattle.tap_exec.specs.declared.running.Running.{Running}
+use Rattle.tap_exec.specs.Running.{Running}
 use Rattle.tap_exec.specs.declared.running.TimerState.{TimerState}
 use Rattle.abstract_run.specs.declared.label.Label.TheVariants as label
 use Rattle.abstract_run.specs.declared.state.Channel.{Channel}
@@ -18,43 +19,18 @@ use Rattle.abstract_run.specs.Channels.{all_sent, most_cells, taken_back}
 use Rattle.abstract_run.specs.Enabled.{is_ready, is_enabled}
 use Rattle.abstract_run.specs.Fits.{FallingFits, Fits}
 use Rattle.byte_meaning.specs.Messages.{IsFitSend, most_sends}
-use Rattle.abstract_run.specs.Progress.{ActionsGoOn, FallsGoOn, HasRoom, IsPossible, NeedsNoChoice, TicksGoOn}
+use Rattle.abstract_run.specs.Progress.{ActionsGoOn, FallsGoOn, HasRoom, IsPossible, TicksGoOn}
 use Rattle.abstract_run.specs.Safe.{BodiesKeepRanges}
 use Rattle.tap_exec.specs.Semantics.{ActionSemantics, ProcessSemantics, Semantics, action_at}
-use Rattle.abstract_run.specs.Step.{After, body_run, is_empty, is_live, performed, put_down, step, time_after, timers_at}
+use Rattle.abstract_run.specs.Step.{After, body_run, is_live, performed, put_down, step, time_after}
 use Rattle.abstract_run.proofs.Acted.{acted_is, left_by, left_fits}
-use Rattle.abstract_run.proofs.Begins.{begins, body_run_is, here, start}
+use Rattle.abstract_run.proofs.Begins.{here}
 use Rattle.abstract_run.proofs.Fallen.{can_take_back}
 use Rattle.abstract_run.proofs.Kept.{flies_from, some_fits}
 use Rattle.abstract_run.proofs.OnChannel.{Ends, count, count_next}
 use Rattle.abstract_run.proofs.Roomy.{Joined, Roomy, can_send, joined_among, joined_same}
 use Rattle.abstract_run.proofs.Taken.{taken_each, taken_ends, taken_shorter}
 use Rattle.abstract_run.proofs.Ticked.{tick_to}
-
--- ---- the body
-
-some_value : {A : Type 0} (o : Option A) → IsSome o → (x : A) × (o ≡ Some x)
-some_value None h = cc
-some_value (Some x) h = (x, refl)
-
-none_left : (taken rest : List ℤ) → [] ≡ taken ++ rest → rest ≡ []
-none_left [] rest e = sym e
-none_left (x ∷ xs) rest e = cc
-
-body_ends : (semantics : Semantics) (s : State) (p a : ℕ) (process : ProcessSemantics) (action : ActionSemantics) → BodiesKeepRanges semantics → NeedsNoChoice semantics → Fits semantics s
-    → slice_get semantics.processes p ≡ Some process → slice_get process.actions a ≡ Some action → is_ready s p action ≡ true → (r : Running) × (body_run s p action [] ≡ Some r)
-body_ends semantics s p a process action keep free fits is stands ready =
-    let b = begins semantics s p process action [] fits is ready in
-    let before = start b.at.cells (timers_at action.guard b.at.timers) [] in
-    let ran = some_value (action.body b.at.inputs b.values before) (free p a process action is stands b.at.inputs b.values before b.beginning refl) in
-    let front = (keep p a process action is stands b.at.inputs b.values before ran.0 b.beginning ran.1).takes in
-    let none = none_left front.taken ran.0.choices front.front in
-    let done = ran.1 in (
-      ran.0,
-      body_run_is s p action b.at.cells b.at.inputs b.values [] b.at.timers b.at.stored b.at.given b.at.timed b.heard
-          ∙ ap (λ o. o >>= λ (r : Running). provided (is_empty r.choices) r) done
-          ∙ ap (λ (xs : List ℤ). provided (is_empty xs) ran.0) none,
-    )
 
 -- ---- its sends
 
@@ -75,36 +51,39 @@ sends_go semantics s p sends taken fits within fitting few ends room =
 
 -- ---- an action
 
-performs : (semantics : Semantics) (s : State) (p a : ℕ) (process : ProcessSemantics) (action : ActionSemantics) → BodiesKeepRanges semantics → NeedsNoChoice semantics → Fits semantics s
-    → Each HasRoom s.channels → slice_get semantics.processes p ≡ Some process → slice_get process.actions a ≡ Some action → is_ready s p action ≡ true
-    → (after : After) × (performed s p action [] ≡ Some after)
-performs semantics s p a process action keep free fits room is stands ready =
-    let run = body_ends semantics s p a process action keep free fits is stands ready in
-    let r = run.0 in
-    let left = left_fits semantics s p a process action [] r keep fits is stands ready run.1 in
+performs : (semantics : Semantics) (s : State) (p a : ℕ) (process : ProcessSemantics) (action : ActionSemantics) (choices : List ℤ) (r : Running) → BodiesKeepRanges semantics → Fits semantics s
+    → Each HasRoom s.channels → slice_get semantics.processes p ≡ Some process → slice_get process.actions a ≡ Some action → is_ready s p action ≡ true → body_run s p action choices ≡ Some r
+    → (after : After) × (performed s p action choices ≡ Some after)
+performs semantics s p a process action choices r keep fits room is stands ready ran =
+    let left = left_fits semantics s p a process action choices r keep fits is stands ready ran in
     let b = left.begins in
     let ends = taken_ends p action.guard s.channels b.taken b.took in
     let roomy = taken_each HasRoom p action.guard (λ c h. omega (arith, h, taken_shorter c)) s.channels b.taken room b.took in
     let sent = sends_go semantics s p r.sends b.taken fits (slice_get_within semantics.processes p process is) left.fitting left.few ends roomy in
-    let ran = run.1 in
     let took = b.took in
     let goes = sent.1 in
     let declared = b.at.declared in
     ((left_by s p r sent.0 b.at.cut, r.sends), rw (ran, took, goes, declared) refl)
 
-acts_when : (semantics : Semantics) (s : State) (p a : ℕ) (action : ActionSemantics) (after : After) → s.falling ≡ None → is_live s p ≡ true → action_at semantics p a ≡ Some action
-    → is_ready s p action ≡ true → performed s p action [] ≡ Some after → step semantics s (label.Act p a []) ≡ Some after
-acts_when semantics s p a action after settled up is ready done =
-    let acts = acted_is semantics s p a [] action is in rw (settled, acts, up, ready, done) refl
+acts_when : (semantics : Semantics) (s : State) (p a : ℕ) (action : ActionSemantics) (choices : List ℤ) (after : After) → s.falling ≡ None → is_live s p ≡ true → action_at semantics p a ≡ Some action
+    → is_ready s p action ≡ true → performed s p action choices ≡ Some after → step semantics s (label.Act p a choices) ≡ Some after
+acts_when semantics s p a action choices after settled up is ready done =
+    let acts = acted_is semantics s p a choices action is in rw (settled, acts, up, ready, done) refl
+
+some_value : {A : Type 0} (o : Option A) → is_some o ≡ true → (x : A) × (o ≡ Some x)
+some_value None h = cc
+some_value (Some x) h = (x, refl)
 
 pub actions_go_on : ActionsGoOn
-actions_go_on semantics s p a keep free fits settled up room enabled = by_action (action_at semantics p a) refl enabled where
-  by_action : (o : Option ActionSemantics) → action_at semantics p a ≡ o → is_yes (option_map (is_ready s p) o) ≡ true → IsPossible semantics s (label.Act p a [])
-  by_action None at ready = cc
-  by_action (Some action) at ready =
+actions_go_on semantics s p a choices keep fits settled up room enabled leads = by_action (action_at semantics p a) refl enabled leads where
+  by_action : (o : Option ActionSemantics) → action_at semantics p a ≡ o → is_yes (option_map (is_ready s p) o) ≡ true → is_some (o >>= λ action. body_run s p action choices) ≡ true
+      → IsPossible semantics s (label.Act p a choices)
+  by_action None at ready ends = cc
+  by_action (Some action) at ready ends =
       option_and_then_some (λ (q : ProcessSemantics). slice_get q.actions a) (slice_get semantics.processes p) action at (λ process is stands.
-      let done = performs semantics s p a process action keep free fits room is stands ready in
-      record { next = done.0.0; sends = done.0.1; is = acts_when semantics s p a action done.0 settled up at ready done.1 })
+      let ran = some_value (body_run s p action choices) ends in
+      let done = performs semantics s p a process action choices ran.0 keep fits room is stands ready ran.1 in
+      record { next = done.0.0; sends = done.0.1; is = acts_when semantics s p a action choices done.0 settled up at ready done.1 })
 
 -- ---- a reading
 

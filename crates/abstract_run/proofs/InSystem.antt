@@ -10,6 +10,7 @@ use Rattle.tap_base.specs.declared.wire.WireField.{WireField}
 use Rattle.tap_base.specs.Option.{◌>>=◌, is_yes}
 use Rattle.abstract_run.specs.declared.state.State.{State}
 use Rattle.abstract_run.specs.inner.Among.{any_waiting}
+use Rattle.abstract_run.specs.inner.ByChoices.{stands_at}
 use Rattle.abstract_run.specs.inner.ComputedSemantics.{computed_action, computed_guard, computed_process, computed_semantics}
 use Rattle.abstract_run.specs.Channels.{error_waits}
 use Rattle.abstract_run.specs.Enabled.{any_enabled, guard_holds, is_ready}
@@ -22,10 +23,6 @@ use Rattle.abstract_run.proofs.Idle.{idle_by_marks}
 use Rattle.abstract_run.proofs.SameSteps.{same_any_enabled}
 
 -- ---- one action
-
--- the action numbered a, as the system has it
-abbrev pub stands_at : System → ℕ → ℕ → Option Action
-stands_at system p a = option_and_then (λ process. slice_get process.actions a) (slice_get system.processes p)
 
 at_computed : (system : System) (p a : ℕ) → action_at (computed_semantics system) p a ≡ option_map (computed_action (messages_of system)) (stands_at system p a)
 at_computed system p a =

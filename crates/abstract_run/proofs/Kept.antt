@@ -26,7 +26,8 @@ use Rattle.abstract_run.specs.Channels.{appended, on_flight, rejected_at, taken_
 use Rattle.abstract_run.specs.Fits.{CellsFit, FallingFits, Fits, IsFitCell, IsFitChannel}
 use Rattle.abstract_run.specs.Kept.{AreFitSends, Keeps, StepsKeep}
 use Rattle.abstract_run.specs.Safe.{BodiesKeepRanges}
-use Rattle.abstract_run.specs.Step.{After, channel_changed, cut_off, fallen, falling_step, is_empty, is_flooded, is_idle, is_live, is_zero, mark_raised, put_down, rejected, settled_step, silent, step, step_by, stopped, ticked, with_channels}
+use Rattle.tap_exec.specs.Execution.{is_empty}
+use Rattle.abstract_run.specs.Step.{After, channel_changed, cut_off, fallen, falling_step, is_flooded, is_idle, is_live, is_zero, mark_raised, put_down, rejected, settled_step, silent, step, step_by, stopped, ticked, with_channels}
 use Rattle.abstract_run.proofs.Acted.{Acted, LeftFits, acted_by, is_both, left_fits}
 use Rattle.abstract_run.proofs.ActKeeps.{acted_fits}
 use Rattle.abstract_run.proofs.Counted.{changed_count, sent_count, taken_count}

@@ -3,6 +3,8 @@ pub mod Acted
 pub mod Apart
 pub mod Begins
 pub mod Behind
+pub mod ByChoices
+pub mod ByLists
 pub mod Commute
 pub mod Counted
 pub mod Dated

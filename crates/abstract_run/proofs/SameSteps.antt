@@ -5,7 +5,7 @@ use Rattle.std.specs.Option.{option_map}
 use Rattle.tap_base.specs.Faults.{changed_to}
 use Rattle.tap_base.specs.Lists.{EachBoth}
 use Rattle.tap_base.specs.Option.{◌>>=◌, is_yes, provided}
-use Rattle.tap_exec.specs.declared.running.Running.{Running}
+use Rattle.tap_exec.specs.Running.{Running}
 use Rattle.tap_exec.specs.declared.running.TimerState.{TimerState}
 use Rattle.byte_meaning.specs.Reading.{heard, heard_by, heard_in, meaning, meaning_among}
 use Rattle.abstract_run.specs.declared.label.Label.{Label}
@@ -18,7 +18,8 @@ use Rattle.abstract_run.specs.Enabled.{any_enabled, guard_holds, is_enabled, is_
 use Rattle.abstract_run.specs.Fits.{Fits}
 use Rattle.abstract_run.specs.Safe.{Agrees, SameAction, SameGuard, SameProcess, SameSteps, receives, tests, timeouts}
 use Rattle.tap_exec.specs.Semantics.{ActionSemantics, GuardSemantics, ProcessSemantics, Semantics, action_at}
-use Rattle.abstract_run.specs.Step.{After, acted, any_pressing, body_run, channel_changed, channels_at, flight_changed, is_empty, is_live, is_pressing, is_receive, performed, received, settled_step, silent, step_by, timers_at}
+use Rattle.tap_exec.specs.Execution.{is_empty}
+use Rattle.abstract_run.specs.Step.{After, acted, any_pressing, body_run, channel_changed, channels_at, flight_changed, is_live, is_pressing, is_receive, performed, received, settled_step, silent, step_by, timers_at}
 use Rattle.abstract_run.proofs.Acted.{acted_at, acted_is, acted_none, is_both, left_by}
 use Rattle.abstract_run.proofs.Begins.{Begins, Here, begins, body_run_is, here, start}
 

@@ -7,7 +7,6 @@ pub mod Kept
 pub mod Opening
 pub mod Progress
 pub mod Run
-pub mod Runnable
 pub mod Safe
 pub mod Step
 pub mod inner

@@ -7,7 +7,7 @@ use Rattle.tap_base.specs.Interval.{IsIn}
 use Rattle.tap_base.specs.Lists.{Each, EachBoth}
 use Rattle.tap_base.specs.Ranges.{AreAllIn, ranges_of}
 use Rattle.tap_base.specs.Resolved.{IsMessage}
-use Rattle.tap_exec.specs.declared.running.Running.{Running}
+use Rattle.tap_exec.specs.Running.{Running}
 use Rattle.tap_exec.specs.declared.running.Outgoing.{Outgoing}
 use Rattle.tap_exec.specs.Front.{TakesFromFront}
 use Rattle.abstract_run.specs.declared.label.Label.{Label}

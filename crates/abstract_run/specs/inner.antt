@@ -1,3 +1,4 @@
 pub mod Among
+pub mod ByChoices
 pub mod ComputedSemantics
 pub mod Does

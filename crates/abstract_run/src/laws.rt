@@ -15,8 +15,9 @@ pub fn steps_keep_fitting()
     ensures { StepsKeep }
 {}
 
-/// Where bodies keep ranges and need no choice, in a fitting state with nothing falling an enabled
-/// action of a process that is not down has a step, where each channel has room for what it may send.
+/// Where bodies keep ranges, in a fitting state with nothing falling an enabled action of a process
+/// that is not down has a step with choices that lead its body to its end, where each channel has room
+/// for what it may send.
 pub fn actions_go_on()
     ensures { ActionsGoOn }
 {}

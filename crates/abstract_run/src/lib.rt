@@ -1,6 +1,7 @@
 //! The abstract system: the state of a run, its steps, and the spelling of messages.
 #![tactic(auto)]
 
+mod acting;
 mod acts;
 mod arrivals;
 mod bodies;
@@ -17,6 +18,8 @@ mod steps;
 mod stops;
 mod ticks;
 
+pub use acting::act_by;
+pub use acts::Performed;
 pub use byte_meaning::{Cell, meaning, spell};
 pub use enabling::enabled;
 pub use label::{Event, Label};
@@ -24,4 +27,4 @@ pub use laws::{actions_go_on, falls_go_on, same_steps, steps_keep_fitting, ticks
 pub use opening::init;
 pub use state::{Channel, Falling, State, StepFault};
 pub use steps::step;
-pub use tap_exec::{Outgoing, Running, TimerState};
+pub use tap_exec::{Choices, Outgoing, Running, TimerState};

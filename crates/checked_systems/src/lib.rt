@@ -3,4 +3,4 @@
 
 mod laws;
 
-pub use laws::{checked_goes_on, checked_is_sound, checked_runs};
+pub use laws::{checked_is_sound, checked_runs};

@@ -24,16 +24,16 @@ what_is (Some bytes) t = (bytes, refl)
 of_it : (o : Option (List ℕ)) (P : List ℕ → Type 0) (bytes : List ℕ) → o ≡ Some bytes → IfSome o P → P bytes
 of_it o P bytes e h = let held : IfSome (Some bytes) P = subst (λ x. IfSome x P) e h in held
 
-pub took : (system schedule : List ℕ) (settings : List Assignment) (store : StoreValue) (old new : SinkValue)
+pub took : (system schedule : List ℕ) (seed : ℕ) (settings : List Assignment) (store : StoreValue) (old new : SinkValue)
     → AreFound (reads_both system schedule Done) (contents_of store.entries)
-    → Puts (IsTrace (task_of system schedule settings (contents_of store.entries))) (Some old.written) (Some new.written)
-    → TookTrace system schedule settings store old new
-took system schedule settings store old new found p =
+    → Puts (IsTrace (task_of system schedule seed settings (contents_of store.entries))) (Some old.written) (Some new.written)
+    → TookTrace system schedule seed settings store old new
+took system schedule seed settings store old new found p =
     let contents = contents_of store.entries in
     let text = what_is (contents system) found.0 in
     let lines = what_is (contents schedule) found.1.0 in
     let run = p.kind.run in
-    let trace : IsTraceOfRun text.0 lines.0 settings p.bytes = record {
+    let trace : IsTraceOfRun text.0 lines.0 seed settings p.bytes = record {
       semantics = run.semantics;
       inputs = run.inputs;
       gives = of_it (contents system) (λ t. Gives t settings run.semantics run.inputs) text.0 text.1 (where_told (contents system) settings run.semantics run.inputs run.gives);

@@ -111,7 +111,7 @@ fn run_in_memory(
     link: &mut MemoryLink,
     clock: &mut ListClock,
 ) -> Status
-    ensures done { (system schedule : List ℕ) (settings : List Assignment) → command_of words.now ≡ Some (world system schedule settings) → result ≡ Status.Done → TookTrace system schedule settings store.old out.old out.new }
+    ensures done { (system schedule : List ℕ) (seed : ℕ) (settings : List Assignment) → command_of words.now ≡ Some (world system schedule seed settings) → result ≡ Status.Done → TookTrace system schedule seed settings store.old out.old out.new }
 {
     run(alloc, words, store, out, link, clock)
 }

@@ -1,6 +1,6 @@
 //! What `check`, `world` and `print` answer to a text: it is accepted or refused.
 
-use super::cases::{CALM, CHECK, Case, PRINT, WORLD, answer, check};
+use super::cases::{CALM, CHECK, Case, PRINT, answer, check};
 use super::texts::{COUNTER, CUT, PING, TOKEN, TRI};
 use std::alloc::Global;
 use std::process::Abort;
@@ -9,9 +9,6 @@ use tapc_core::Status;
 
 /// A text: its name, itself, the status, and the line.
 type Row = (&'static str, &'static [u8], Status, &'static [u8]);
-
-/// What `world` writes of a text that is accepted, and can't be run so far.
-const OUTSIDE: &[u8] = b"refused S0 1:1\n";
 
 /// Those that are read as trees.
 fn trees() -> [Row; 19] {
@@ -289,9 +286,9 @@ fn world_refuses_them(rt: &impl Abort, alloc: Global, rows: &[Row]) -> Result<()
     Ok(())
 }
 
-/// Texts that are accepted, and may ask for a choice, and what `check` writes of them.
+/// Texts that may ask for a choice are accepted, and what `check` writes of them.
 #[test]
-fn a_text_that_may_ask_for_a_choice_is_not_run(rt: HostRuntime) -> Result<(), Fail> {
+fn a_text_that_may_ask_for_a_choice_is_accepted(rt: HostRuntime) -> Result<(), Fail> {
     for (name, text, lines) in [
         (
             "a choice of a value",
@@ -311,8 +308,6 @@ fn a_text_that_may_ask_for_a_choice_is_not_run(rt: HostRuntime) -> Result<(), Fa
     ] {
         let row = (name, text.as_bytes(), Status::Done, lines.as_bytes());
         check(&rt, rt.alloc(), &case_of(&row, CHECK))?;
-        let row = (name, text.as_bytes(), Status::Refused, OUTSIDE);
-        check(&rt, rt.alloc(), &case_of(&row, WORLD))?;
     }
     Ok(())
 }

@@ -7,6 +7,8 @@ mod cases;
 #[cfg(test)]
 mod checked;
 #[cfg(test)]
+mod draws;
+#[cfg(test)]
 mod faults;
 #[cfg(test)]
 mod long;

@@ -1,4 +1,4 @@
-//! The settings of `world`: words that are none, settings that are refused, and runs with inputs.
+//! The settings of `world`: words that are none, settings that are refused, and runs with inputs and a seed.
 
 use super::cases::{CALM, Case, check};
 use super::texts::{COUNTER, HELLO, INPUTS};
@@ -13,7 +13,7 @@ const USAGE: &[u8] = b"usage: tapc check | print | compile | world | node | repl
 type Row = (&'static str, &'static [&'static str], Status, &'static [u8]);
 
 /// Words behind two files, of which one is no setting.
-fn words() -> [(&'static str, &'static [&'static str]); 17] {
+fn words() -> [(&'static str, &'static [&'static str]); 31] {
     [
         ("nothing", &["world", "s", "t", ""]),
         ("no value", &["world", "s", "t", "a.x"]),
@@ -35,11 +35,37 @@ fn words() -> [(&'static str, &'static [&'static str]); 17] {
             "too small",
             &["world", "s", "t", "a.x=-9223372036854775809"],
         ),
+        ("no seed", &["world", "s", "t", "seed"]),
+        ("an empty seed", &["world", "s", "t", "seed="]),
+        ("a seed below 0", &["world", "s", "t", "seed=-1"]),
+        (
+            "a seed with a zero in front",
+            &["world", "s", "t", "seed=01"],
+        ),
+        ("a seed of two zeros", &["world", "s", "t", "seed=00"]),
+        ("a seed with a plus", &["world", "s", "t", "seed=+1"]),
+        ("a blank behind the seed", &["world", "s", "t", "seed=1 "]),
+        ("two seeds in one word", &["world", "s", "t", "seed=1=1"]),
+        ("a seed in upper case", &["world", "s", "t", "Seed=1"]),
+        (
+            "a seed of more than 64 bits",
+            &["world", "s", "t", "seed=18446744073709551616"],
+        ),
+        ("one seed twice", &["world", "s", "t", "seed=1", "seed=1"]),
+        ("two seeds", &["world", "s", "t", "seed=1", "seed=2"]),
+        (
+            "two seeds around a setting",
+            &["world", "s", "t", "seed=0", "a.x=1", "seed=0"],
+        ),
+        (
+            "a seed, and a word that is no setting",
+            &["world", "s", "t", "seed=1", "extra"],
+        ),
     ]
 }
 
 /// Settings of a system without inputs, and words that are none of `world`.
-fn undeclared() -> [Row; 14] {
+fn undeclared() -> [Row; 21] {
     [
         (
             "an input that is not declared",
@@ -125,6 +151,48 @@ fn undeclared() -> [Row; 14] {
             Status::Usage,
             USAGE,
         ),
+        (
+            "a seed of check",
+            &["check", "s", "seed=1"],
+            Status::Usage,
+            USAGE,
+        ),
+        (
+            "a seed of print",
+            &["print", "s", "seed=1"],
+            Status::Usage,
+            USAGE,
+        ),
+        (
+            "an input with the name of the seed",
+            &["world", "s", "t", "seed=1", "a.seed=1"],
+            Status::Refused,
+            b"refused I1 a.seed\n",
+        ),
+        (
+            "a seed for a schedule",
+            &["world", "s", "seed=1"],
+            Status::ReadFault,
+            b"read fault\n",
+        ),
+        (
+            "a seed of 0",
+            &["world", "s", "t", "seed=0"],
+            Status::Done,
+            b"var a k 0\nend\n",
+        ),
+        (
+            "a seed of 1",
+            &["world", "s", "t", "seed=1"],
+            Status::Done,
+            b"var a k 0\nend\n",
+        ),
+        (
+            "the greatest seed",
+            &["world", "s", "t", "seed=18446744073709551615"],
+            Status::Done,
+            b"var a k 0\nend\n",
+        ),
     ]
 }
 
@@ -145,11 +213,17 @@ fn other_words_are_no_setting(rt: HostRuntime) -> Result<(), Fail> {
 }
 
 /// Settings of a system with inputs: two of a, from -2 to 5 and a truth, and one of b, from 7 to 9.
-fn offences() -> [Row; 15] {
+fn offences() -> [Row; 16] {
     [
         (
             "no setting",
             &["world", "s", "t"],
+            Status::Refused,
+            b"refused I3 a.low\n",
+        ),
+        (
+            "a seed alone",
+            &["world", "s", "t", "seed=1"],
             Status::Refused,
             b"refused I3 a.low\n",
         ),
@@ -253,7 +327,7 @@ type Run = (
 );
 
 /// Runs with settings, and a text that is refused before they are judged.
-fn runs() -> [Run; 7] {
+fn runs() -> [Run; 8] {
     [
         (
             "a text before a setting",
@@ -275,6 +349,14 @@ fn runs() -> [Run; 7] {
         (
             "greatest values, in another order",
             &["world", "s", "t", "b.high=9", "a.go=1", "a.low=5"],
+            INPUTS,
+            b"turn a 0\nturn b 1\n",
+            Status::Done,
+            b"tick a 0\nact a 0\ntick b 1\nact b 0\nvar a k 5\nvar b h 9\nend\n",
+        ),
+        (
+            "a seed among the others",
+            &["world", "s", "t", "b.high=9", "seed=1", "a.go=1", "a.low=5"],
             INPUTS,
             b"turn a 0\nturn b 1\n",
             Status::Done,

@@ -88,3 +88,30 @@ begin
     send ack(data.seq) to a
 end
 ";
+
+/// A process chooses a digit.
+pub const DIGIT: &[u8] = b"process a var x : 0..9 begin true -> choose x end";
+
+/// It chooses one of three values.
+pub const THREE: &[u8] = b"process a var x : 0..2 begin true -> choose x end";
+
+/// It chooses one of ten values from -5 on.
+pub const BELOW: &[u8] = b"process a var x : -5..4 begin true -> choose x end";
+
+/// It chooses one of 2^32 values.
+pub const WORD: &[u8] = b"process a var x : 0..4294967295 begin true -> choose x end";
+
+/// It chooses one of one value, and then a digit.
+pub const ONE: &[u8] = b"process a var y : 3..3; x : 0..9 begin true -> choose y; choose x end";
+
+/// Two processes choose digits.
+pub const PAIR: &[u8] = b"process a var x : 0..9 begin true -> choose x end \
+process b var x : 0..9 begin true -> choose x end";
+
+/// A die is thrown four times, and what is thrown is counted as high or low, where it may be both.
+pub const THROWS: &[u8] = b"message throw begin pips : 8 bits end \
+process a var die : 1..6; left : 0..4 = 4 \
+begin left > 0 -> choose die; left := max(left - 1, 0); send throw(die) to b end \
+process b var high : 0..9; low : 0..9 \
+begin rcv throw from a -> if throw.pips > 2 -> high := min(high + 1, 9) \
+[] throw.pips < 6 -> low := min(low + 1, 9) fi end";

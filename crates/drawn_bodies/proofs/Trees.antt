@@ -1,19 +1,27 @@
 -- A tree of choices: where it ends, and where it asks for one, with what follows each.
-use Rattle.std.proofs.Common.{◌≡◌, ◌<◌, ◌^◌, ◌+◌, ℕ, zero, suc, ℤ, Bool, true, false, if◌then◌else◌, List, [], ◌∷◌, ◌++◌, length, refl, ap, sym, subst, ◌∙◌, Option, Some, None, arith, append_assoc}
-use Rattle.std.specs.Prelude.{Contains, is_some}
+use Rattle.std.proofs.Common.{◌≡◌, ◌<◌, ◌^◌, ◌+◌, ℕ, zero, suc, ℤ, Bool, true, false, if◌then◌else◌, List, [], ◌∷◌, ◌++◌, length, refl, ap, sym, subst, ◌∙◌, Option, Some, None, arith, append-nil, append_assoc}
+use Rattle.std.specs.Prelude.{Contains, is_some, unwrap_or}
+use Rattle.std.specs.Option.{option_map}
 use Rattle.std.specs.List.{list_any}
 use Rattle.std.specs.Ordering.{int_eq}
 use Rattle.std.proofs.lemmas.Bool.Decides.{Decides-int_eq}
 use Rattle.std.proofs.lemmas.Map.Views.{Contains-from_any}
-use Rattle.std.proofs.lemmas.Option.{get_or_from_slice_get}
+use Rattle.std.proofs.lemmas.Option.{get_or_from_slice_get, slice_get_within}
 use Rattle.tap_base.specs.Option.{◌>>=◌, provided}
 use Rattle.tap_base.proofs.ListFacts.{element_at}
-use Rattle.tap_exec.specs.declared.running.Running.{Running}
+use Rattle.tap_exec.specs.declared.running.Running.{Running as Open}
+use Rattle.tap_exec.specs.Running.{Running}
+use Rattle.tap_exec.specs.Sourced.{Source}
 use Rattle.tap_exec.proofs.Quiet.{with_choices}
-use Rattle.abstract_run.specs.Step.{is_empty}
-use Rattle.drawn_choices.specs.Draws.{AreDrawn, AreOptions, AreRising, CanTake, IsDraw, Leading, drawn}
+use Rattle.tap_exec.specs.Execution.{is_empty}
+use Rattle.rand_pcg.specs.Lcg.{Lcg}
+use Rattle.rand_pcg.specs.Pcg.{multiplier_64}
+use Rattle.rand_pcg.proofs.LcgLemmas.{advance_zero}
+use Rattle.drawn_choices.specs.declared.drawing.Drawing.{Drawing}
+use Rattle.drawn_choices.specs.Drawing.{drawing}
+use Rattle.drawn_choices.specs.Draws.{AreDrawn, AreOptions, AreRising, CanTake, IsDraw, Leading, after_words, drawn, option_drawn, word_from}
 use Rattle.drawn_choices.proofs.MoreDrawn.{none_drawn}
-use Rattle.drawn_choices.proofs.Words.{drawn_below}
+use Rattle.drawn_choices.proofs.Words.{after_both, drawn_below, word_behind, word_fits}
 use Rattle.drawn_bodies.specs.Drawn.{CanBeDrawn, DrawsToEnd, HasOptions}
 
 pub data Tree : Type 0 where
@@ -25,6 +33,19 @@ abbrev pub walk : Tree → List ℤ → Option Running
 walk (ends t) cs = Some (with_choices t cs)
 walk (asks options f) [] = None
 walk (asks options f) (x ∷ cs) = if list_any (int_eq x) options then walk (f x) cs else None
+
+-- the same, with choices from a source
+abbrev pub with_source : {C : Type 0} → Running → C → Open C
+with_source r c = record { cells = r.cells; timers = r.timers; sends = r.sends; choices = c }
+
+-- a source gives options alone
+abbrev pub Gives : {C : Type 0} → Source C → Type 0
+Gives {C = C} source = (options : List ℤ) (c : C) (x : ℤ) (left : C) → source options c ≡ Some (x, left) → list_any (int_eq x) options ≡ true
+
+-- what a source leads to
+abbrev pub walk_by : {C : Type 0} → Source C → Tree → C → Option (Open C)
+walk_by source (ends t) c = Some (with_source t c)
+walk_by source (asks options f) c = source options c >>= λ x. walk_by source (f x.0) x.1
 
 -- there are options, in rising order
 abbrev pub AreAsked : List ℤ → Type 0
@@ -191,3 +212,73 @@ module _ (P : Running → Type 0) where
           drawn = λ before behind x is. draw_behind one (leads t) [] before (word (k + length before)) x same (d.drawn before behind x is);
         };
   }
+
+  -- ---- a generator
+
+  -- what a generator leads to, and the choices that it gives
+  pub record WalksDrawn (t : Tree) (g : Lcg) (taken : List ℤ) : Type 0 where
+    pub choices : List ℤ
+    pub end : Running
+    pub good : P end
+    pub by_list : walk t choices ≡ Some (with_choices end [])
+    pub by_draws : walk_by drawing t (record { generator = g; taken = taken }) ≡ Some (with_source end (record { generator = after_words (length choices) g; taken = taken ++ choices }))
+    pub drawn : AreDrawn (leads t) (word_from g) 0 choices
+
+  drawn_one : (options taken : List ℤ) (g : Lcg) (x : ℤ) → option_drawn options (word_from g 0) ≡ Some x
+      → drawing options (record { generator = g; taken = taken }) ≡ Some (x, record { generator = after_words 1 g; taken = taken ++ x ∷ [] })
+  drawn_one options taken g x e = rw e refl
+
+  drawn_behind : (one : Leading) (g : Lcg) (cs : List ℤ) → AreDrawn one (word_from (after_words 1 g)) 0 cs → AreDrawn one (word_from g) 1 cs
+  drawn_behind one g cs h before behind x is =
+      let next : 1 + (0 + length before) ≡ 1 + length before = omega arith in
+      subst (λ (w : ℕ). IsDraw one w before x) (word_behind 1 (0 + length before) g ∙ ap (word_from g) next) (h before behind x is)
+
+  pub walks_drawn : (t : Tree) → EachEnd P t → (g : Lcg) (taken : List ℤ) → WalksDrawn t g taken
+  walks_drawn (ends r) h g taken = record {
+    choices = [];
+    end = r;
+    good = h;
+    by_list = refl;
+    by_draws =
+        ap (λ (from : Drawing). Some (with_source r from))
+        (ap (λ (i : Lcg). record { generator = i; taken = taken }) (sym (advance_zero 64 multiplier_64 g)) ∙ ap (λ (cs : List ℤ). record { generator = after_words 0 g; taken = cs }) (sym (append-nil taken)));
+    drawn = none_drawn (leads (ends r)) (word_from g) 0;
+  }
+  walks_drawn (asks options f) h g taken =
+      let place = drawn (word_from g 0) (length options) in
+      let there : place < length options = drawn_below (word_from g 0) (length options) (word_fits g 0) h.0.1 in
+      let x = element_at options place there in
+      let is : list_any (int_eq x.0) options ≡ true = is_among x.0 options (place, there, get_or_from_slice_get options place x.0 x.0 x.1) in
+      let more = walks_drawn (f x.0) (h.1 x.0) (after_words 1 g) (taken ++ x.0 ∷ []) in
+      record {
+        choices = x.0 ∷ more.choices;
+        end = more.end;
+        good = more.good;
+        by_list = ap (λ (b : Bool). if b then walk (f x.0) more.choices else None) is ∙ more.by_list;
+        by_draws =
+            ap (λ (o : Option (ℤ × Drawing)). o >>= λ y. walk_by drawing (f y.0) y.1) (drawn_one options taken g x.0 x.1) ∙ more.by_draws
+            ∙ ap (λ (i : Lcg). Some (with_source more.end (record { generator = i; taken = (taken ++ x.0 ∷ []) ++ more.choices }))) (after_both 1 (length more.choices) g ∙ ap (λ (n : ℕ). after_words n g) (counted more.choices))
+            ∙ ap (λ (cs : List ℤ). Some (with_source more.end (record { generator = after_words (length (x.0 ∷ more.choices)) g; taken = cs }))) (append_assoc taken (x.0 ∷ []) more.choices);
+        drawn = first_then (leads (asks options f)) (leads (f x.0)) (word_from g) 0 x.0 more.choices
+            (record { goes_on = refl; options = options; are = first_options P options f h; takes = x.1 })
+            (λ cs. goes_by options f x.0 cs is)
+            (drawn_behind (leads (f x.0)) g more.choices more.drawn);
+      } where
+        counted : (cs : List ℤ) → 1 + length cs ≡ suc (length cs)
+        counted cs = omega arith
+
+-- what is led as a tree leads is drawn as it is
+pub drawn_as : (one : Leading) (t : Tree) (word : ℕ → ℕ) (k : ℕ) (choices : List ℤ) → ((cs : List ℤ) → one cs ≡ leads t cs) → AreDrawn (leads t) word k choices → AreDrawn one word k choices
+drawn_as one t word k choices same h before behind x is = draw_behind one (leads t) [] before (word (k + length before)) x same (h before behind x is)
+
+-- a generator gives options alone
+pub gives_drawing : Gives drawing
+gives_drawing options c x left e = by_drawn (option_drawn options (word_from c.generator 0)) refl e where
+  by_drawn : (o : Option ℤ) → option_drawn options (word_from c.generator 0) ≡ o
+      → (o >>= λ y. let given : ℤ × Drawing = (y, record { generator = after_words 1 c.generator; taken = c.taken ++ y ∷ [] }) in Some given) ≡ Some (x, left) → list_any (int_eq x) options ≡ true
+  by_drawn None is i = absurd cc
+  by_drawn (Some y) is i =
+      let same : y ≡ x = ap (λ (q : Option (ℤ × Drawing)). unwrap_or (option_map (λ (z : ℤ × Drawing). z.0) q) y) i in
+      let place = drawn (word_from c.generator 0) (length options) in
+      let there : place < length options = slice_get_within options place y is in
+      subst (λ (z : ℤ). list_any (int_eq z) options ≡ true) same (is_among y options (place, there, get_or_from_slice_get options place y y is))

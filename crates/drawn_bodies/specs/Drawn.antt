@@ -3,10 +3,10 @@ use Rattle.std.specs.Prelude.{ℕ, ◌<◌, ◌^◌, ◌≡◌, ℤ, true, List,
 use Rattle.tap_base.specs.Option.{◌>>=◌, provided}
 use Rattle.tap_base.specs.Resolved.{IsResolved}
 use Rattle.tap_base.specs.declared.system.System.{System}
-use Rattle.tap_exec.specs.declared.running.Running.{Running}
+use Rattle.tap_exec.specs.Running.{Running}
 use Rattle.abstract_run.specs.Safe.{IsBeginning}
 use Rattle.tap_exec.specs.Semantics.{ActionSemantics, ProcessSemantics, semantics_of}
-use Rattle.abstract_run.specs.Step.{is_empty}
+use Rattle.tap_exec.specs.Execution.{is_empty}
 use Rattle.drawn_choices.specs.Draws.{AreDrawn, AreOptions, Leading}
 use Rattle.sound_bodies.specs.Judged.{IsJudgedSystem}
 

@@ -3,4 +3,4 @@
 
 mod laws;
 
-pub use laws::bodies_are_drawn;
+pub use laws::{actions_are_drawn, bodies_are_drawn};

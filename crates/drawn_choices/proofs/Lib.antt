@@ -1,3 +1,4 @@
+pub mod Drawn
 pub mod MoreDrawn
 pub mod OneDrawn
 mod WorkedDraws

@@ -1,6 +1,7 @@
 //! Words, and the options that they take.
 
-ghost use Rattle.std.specs.Prelude.{◌≡◌, ◌<◌, ◌≤◌, ◌≤ℤ◌, ◌^◌, Some, length, map, pos, slice_get};
+ghost use Rattle.std.specs.Prelude.{◌≡◌, ◌<◌, ◌≤◌, ◌≤ℤ◌, ◌^◌, ℕ, Some, length, map, pos, slice_get};
+ghost use Rattle.tap_base.specs.Lists.{Each};
 ghost use Rattle.tap_base.specs.Ranges.{values_of, width_of};
 ghost use Rattle.drawn_choices.specs.Draws as spec;
 
@@ -66,6 +67,7 @@ pub fn draw_value(range: Range, generator: &mut Lcg64Xsh32) -> i64
 pub fn draw_number(numbers: &[usize], generator: &mut Lcg64Xsh32) -> usize
     requires { 0 < length numbers.now }
     ensures value { spec.option_drawn (map pos numbers.now) (spec.word_from generator.old 0) ≡ Some (pos result) }
+    ensures within { (n : ℕ) → Each (λ k. k < n) numbers.now → result < n }
     ensures moved { generator.new ≡ spec.after_words 1 generator.old }
 {
     let place = pick(next_word(generator), numbers.len() as u128);

@@ -10,7 +10,7 @@ use Rattle.tap_base.specs.Interval.{IsIn, from_to}
 use Rattle.tap_base.specs.Option.{◌>>=◌}
 use Rattle.tap_base.specs.Ranges.{AreAllIn, values_of}
 use Rattle.tap_base.proofs.RangeFacts.{among_values, within_decides}
-use Rattle.tap_exec.specs.declared.running.Running.{Running}
+use Rattle.tap_exec.specs.Running.{Running}
 use Rattle.register_code.specs.declared.bad.Part.TheVariants as part
 use Rattle.register_code.specs.declared.code.Code.{Code}
 use Rattle.register_code.specs.declared.code.CodeAction.{CodeAction}

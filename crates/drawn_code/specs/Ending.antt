@@ -1,7 +1,7 @@
 -- Code that can come to its end.
 use Rattle.std.specs.Prelude.{◌≡◌, ℕ, ◌≤◌, ℤ, true, List, [], Some}
 use Rattle.tap_base.specs.Ranges.{AreAllIn}
-use Rattle.tap_exec.specs.declared.running.Running.{Running}
+use Rattle.tap_exec.specs.Running.{Running}
 use Rattle.register_code.specs.declared.bad.Part.{Part}
 use Rattle.register_code.specs.declared.code.Code.{Code}
 use Rattle.register_code.specs.declared.code.CodeAction.{CodeAction}

@@ -1,5 +1,6 @@
 pub mod Chosen
 pub mod Cursors
+pub mod Drawn
 pub mod Joined
 pub mod RejectsActs
 pub mod RejectsCells

@@ -26,7 +26,8 @@ use Rattle.abstract_run.specs.Fits.{Fits, IsFitChannel}
 use Rattle.abstract_run.specs.Opening.{opening_state}
 use Rattle.abstract_run.specs.Run.{state_after}
 use Rattle.abstract_run.specs.Safe.{BodiesKeepRanges}
-use Rattle.abstract_run.specs.Step.{After, channel_changed, cut_off, fallen, falling_step, is_empty, is_flooded, is_idle, is_live, is_zero, mark_raised, put_down, rejected, settled_step, silent, step, ticked}
+use Rattle.tap_exec.specs.Execution.{is_empty}
+use Rattle.abstract_run.specs.Step.{After, channel_changed, cut_off, fallen, falling_step, is_flooded, is_idle, is_live, is_zero, mark_raised, put_down, rejected, settled_step, silent, step, ticked}
 use Rattle.abstract_run.proofs.Acted.{Acted, acted_by}
 use Rattle.abstract_run.proofs.Apart.{among_apart, apart_same}
 use Rattle.abstract_run.proofs.Found.{channel_of_is, found, found_one}

@@ -1,5 +1,8 @@
+pub mod Acting
 pub mod Choice
+pub mod Draws
 pub mod Moments
 pub mod Rejects
+pub mod Runnable
 pub mod Worked
 pub mod WorkedRejects

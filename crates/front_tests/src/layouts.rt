@@ -1,6 +1,6 @@
 //! Texts whose messages are too long, or are not told apart.
 
-use super::texts::{alike_lines, answer_lines, numbered, offence_lines, run_line, unmarked};
+use super::texts::{alike_lines, answer_lines, numbered, offence_lines};
 use std::alloc::Global;
 use std::test::Fail;
 
@@ -215,16 +215,13 @@ fn a_long_message_comes_behind_widths(rt: HostRuntime) -> Result<(), Fail> {
     Ok(())
 }
 
-/// Then come those that are not told apart; and of a text that is to run, a choice comes last.
+/// Then come those that are not told apart, also where an action asks for a choice.
 #[test]
-fn a_choice_comes_behind_messages(rt: HostRuntime) -> Result<(), Fail> {
+fn messages_are_told_apart_beside_a_choice(rt: HostRuntime) -> Result<(), Fail> {
     let alike = "message o begin f : 8 bits end message ^p begin f : 8 bits end ";
     let chosen = "var x : 0..1 begin true -> choose x end";
     let marked = format!(in rt.alloc(); "{alike}{RECEIVED}{chosen}")?;
     let (wanted, found) = alike_lines(rt.alloc(), marked.as_str(), "o p")?;
     assert!(rt; found.as_str() == wanted.as_str(), "{found}");
-    let (text, _) = unmarked(rt.alloc(), marked.as_bytes())?;
-    let found = run_line(rt.alloc(), text.as_slice())?;
-    assert!(rt; found.as_str() == wanted.as_str(), "to run: {found}");
     Ok(())
 }

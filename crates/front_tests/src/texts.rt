@@ -4,7 +4,7 @@ use std::alloc::Global;
 use std::fmt::Write;
 use std::test::Fail;
 use tap_base::Place;
-use tap_front::{Offence, TextFault, accept, accept_to_run, refused_line, tree_of};
+use tap_front::{Offence, TextFault, accept, refused_line, tree_of};
 use tap_parser::ParseFault;
 
 /// A text without its mark `^`, and the place of the byte behind the mark.
@@ -82,13 +82,6 @@ pub fn answer_lines(alloc: Global, marked: &str, answer: &str) -> Result<(String
     Ok((wanted, accepted_line(alloc, text.as_slice())?))
 }
 
-/// The line of an answer to a text that is to run, at its mark, and the line that is told of it.
-pub fn run_lines(alloc: Global, marked: &str, answer: &str) -> Result<(String, String), Fail> {
-    let (text, place) = unmarked(alloc, marked.as_bytes())?;
-    let wanted = answer_line(alloc, answer, place)?;
-    Ok((wanted, run_line(alloc, text.as_slice())?))
-}
-
 /// The line of two messages that are not told apart, by both names and at the mark of a text, and the line that is told of
 /// the text.
 pub fn alike_lines(alloc: Global, marked: &str, names: &str) -> Result<(String, String), Fail> {
@@ -103,15 +96,6 @@ pub fn read_line(alloc: Global, text: &[u8]) -> Result<String, Fail> {
         Ok(_) => Ok(String::from_str(alloc, "read\n")?),
         Err(ParseFault::Refused(refusal)) => Ok(refused_line(alloc, &Offence::Coded(refusal))?),
         Err(ParseFault::NoMemory) => Ok(String::from_str(alloc, "no memory\n")?),
-    }
-}
-
-/// The line of the first offence of a text for a run, or that it is accepted.
-pub fn run_line(alloc: Global, text: &[u8]) -> Result<String, Fail> {
-    match accept_to_run(alloc, text) {
-        Ok(_) => Ok(String::from_str(alloc, "accepted\n")?),
-        Err(TextFault::Refused(offence)) => Ok(refused_line(alloc, &offence)?),
-        Err(TextFault::NoMemory) => Ok(String::from_str(alloc, "no memory\n")?),
     }
 }
 

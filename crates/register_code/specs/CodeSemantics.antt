@@ -1,7 +1,7 @@
 -- What code says to a run: its messages, and of each process its name, inputs, variables, timers, guards and bodies.
 use Rattle.std.specs.Prelude.{ℕ, map}
 use Rattle.std.specs.Option.{option_map}
-use Rattle.tap_exec.specs.declared.running.Running.{Running}
+use Rattle.tap_exec.specs.Running.{Running}
 use Rattle.tap_exec.specs.Semantics.{ActionSemantics, GuardSemantics, InputSemantics, ProcessSemantics, Semantics, local, receive, timeout}
 use Rattle.tap_base.specs.Interval.{from_to}
 use Rattle.register_code.specs.declared.code.Code.{Code}

@@ -1,7 +1,7 @@
 -- A part of a program runs one instruction after another.
 use Rattle.std.specs.Prelude.{◌≡◌, ℕ, zero, suc, ◌<◌, ◌≤◌, ◌==◌, ℤ, pos, Bool, true, if◌then◌else◌, List, [], take, length, replicate, slice_get, Option, Some, None}
 use Rattle.std.specs.Ordering.{int_eq}
-use Rattle.tap_exec.specs.declared.running.Running.{Running}
+use Rattle.tap_exec.specs.Running.{Running}
 use Rattle.tap_exec.specs.declared.running.TimerState.TheVariants.{Off}
 use Rattle.tap_base.specs.Option.{◌>>=◌, provided, is_yes}
 use Rattle.register_code.specs.declared.code.CodeAction.{CodeAction}

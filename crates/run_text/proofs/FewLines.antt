@@ -18,7 +18,8 @@ use Rattle.abstract_run.specs.Kept.{AreFitSends}
 use Rattle.abstract_run.specs.Run.{state_after}
 use Rattle.abstract_run.specs.Safe.{BodiesKeepRanges, most_vars}
 use Rattle.tap_exec.specs.Semantics.{ProcessSemantics, Semantics}
-use Rattle.abstract_run.specs.Step.{After, fallen, is_empty, is_live, is_zero, put_down, step, stopped}
+use Rattle.tap_exec.specs.Execution.{is_empty}
+use Rattle.abstract_run.specs.Step.{After, fallen, is_live, is_zero, put_down, step, stopped}
 use Rattle.run_text.specs.declared.names.VarName.{VarName}
 use Rattle.run_text.specs.FewLines.{FewLines, FewLinesForEach, most_lines_of_event}
 use Rattle.run_text.specs.TraceText.{last_lines, names_in, run_lines, sent_line, settled_after, taken_back, var_lines, var_name, vars_in, vars_of, went_out}

@@ -12,7 +12,7 @@ use Rattle.tap_base.specs.Lists.{Each, EachBoth}
 use Rattle.tap_base.specs.Parts.{Deed, all_deeds, assign, branch_deeds, choose, deeds, joined as deeds_joined, send, start, stop, test, turns}
 use Rattle.tap_base.specs.Ranges.{AreAllIn}
 use Rattle.tap_base.proofs.ListFacts.{each_split}
-use Rattle.tap_exec.specs.declared.running.Running.{Running}
+use Rattle.tap_exec.specs.Running.{Running}
 use Rattle.tap_exec.specs.declared.running.TimerState.TheVariants as timer
 use Rattle.tap_exec.specs.Execution.{Doing, alternative, assigned, chosen, exec, exec_all, holds_in, rounds, sent, started, with_timer}
 use Rattle.tap_exec.proofs.StmtInduction.{of_stmt}

@@ -5,7 +5,7 @@ use Rattle.std.specs.List.{fold, list_any}
 use Rattle.std.specs.Ordering.{int_eq}
 use Rattle.tap_base.specs.Option.{◌>>=◌, provided}
 use Rattle.tap_base.proofs.ListFacts.{each_append}
-use Rattle.tap_exec.specs.declared.running.Running.{Running}
+use Rattle.tap_exec.specs.Running.{Running}
 use Rattle.tap_exec.specs.Execution.{Alternative, Doing, one_runs, do_all, open_from, takes, round, rounds}
 use Rattle.byte_meaning.specs.Messages.{IsFitSend}
 use Rattle.abstract_run.specs.Safe.{IsFitRunning}

@@ -5,7 +5,7 @@ use Rattle.std.specs.List.{list_any}
 use Rattle.std.specs.Ordering.{int_eq}
 use Rattle.tap_base.specs.Lists.{Each}
 use Rattle.tap_base.specs.Option.{◌>>=◌, provided}
-use Rattle.tap_exec.specs.declared.running.Running.{Running}
+use Rattle.tap_exec.specs.Running.{Running}
 use Rattle.tap_exec.specs.Execution.{Alternative, Doing, do_all, one_runs, open_from, round, rounds}
 use Rattle.abstract_run.specs.Safe.{IsFitRunning}
 use Rattle.tap_exec.specs.Semantics.{ProcessSemantics, Semantics}

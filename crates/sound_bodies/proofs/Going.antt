@@ -18,7 +18,7 @@ use Rattle.tap_base.specs.Ranges.{ranges_of, values_of}
 use Rattle.tap_base.specs.Resolved.{IsOrdered}
 use Rattle.tap_base.proofs.ListFacts.{each_at, each_split}
 use Rattle.tap_base.proofs.RangeFacts.{among_values, within_decides}
-use Rattle.tap_exec.specs.declared.running.Running.{Running}
+use Rattle.tap_exec.specs.Running.{Running}
 use Rattle.tap_exec.specs.declared.running.TimerState.TheVariants as timer
 use Rattle.tap_exec.specs.Execution.{Doing, alternative, assigned, chosen, exec, exec_all, place_in, rounds, sent, started, value_in, with_timer, writes}
 use Rattle.tap_exec.specs.Filling.{filled}

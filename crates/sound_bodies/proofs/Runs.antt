@@ -2,7 +2,7 @@
 use Rattle.std.specs.Prelude.{◌≡◌, ◌≤◌, ◌++◌, ℕ, List, length, Option, IfSome}
 use Rattle.tap_base.specs.Lists.{Each}
 use Rattle.tap_exec.specs.declared.running.Outgoing.{Outgoing}
-use Rattle.tap_exec.specs.declared.running.Running.{Running}
+use Rattle.tap_exec.specs.Running.{Running}
 use Rattle.byte_meaning.specs.Messages.{IsFitSend}
 use Rattle.abstract_run.specs.Safe.{IsFitRunning}
 use Rattle.tap_exec.specs.Semantics.{ProcessSemantics, Semantics}

@@ -16,7 +16,7 @@ use Rattle.tap_base.specs.Ranges.{AreAllIn, ranges_of, values_of}
 use Rattle.tap_base.specs.Resolved.{IsArray}
 use Rattle.tap_base.proofs.ListFacts.{both_set, each_set}
 use Rattle.tap_base.proofs.RangeFacts.{among_values, within_decides}
-use Rattle.tap_exec.specs.declared.running.Running.{Running}
+use Rattle.tap_exec.specs.Running.{Running}
 use Rattle.tap_exec.specs.declared.running.TimerState.{TimerState}
 use Rattle.tap_exec.specs.declared.running.TimerState.TheVariants as timer
 use Rattle.tap_exec.specs.Execution.{assigned, chosen, place_by, place_in, sent, started, takes, value_in, with_timer, writes}

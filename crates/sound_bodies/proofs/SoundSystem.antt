@@ -18,7 +18,7 @@ use Rattle.tap_base.specs.Scope.{input_ranges, scope_of}
 use Rattle.tap_base.proofs.ListFacts.{each_append, each_at, each_replicate, each_map, each_weaker, numbered_at}
 use Rattle.tap_base.proofs.OptionFacts.{mapped}
 use Rattle.tap_exec.proofs.Fronts.{all_front}
-use Rattle.tap_exec.specs.declared.running.Running.{Running}
+use Rattle.tap_exec.specs.Running.{Running}
 use Rattle.tap_exec.specs.Computed.{computed}
 use Rattle.tap_exec.specs.Execution.{exec_all}
 use Rattle.abstract_run.specs.inner.ComputedSemantics.{computed_action, computed_guard, computed_process, computed_semantics}
@@ -121,13 +121,15 @@ module _ (system : System) (ok : IsResolved system) (right : IsJudgedSystem syst
         let vars = (numbered_at (IsResolvedProcess system) system.processes p process ok.processes there).vars in
         body_goes_on (semantics_of system) p (process_semantics (messages_of system) process) inputs received (ranges_ordered process.vars vars) action.body deeds r begin.running
 
-    computed_runs : Runs (semantics_of system) p (process_semantics (messages_of system) process) (body_sends action.body) (exec_all computed (messages_of system) inputs received action.body) (exec_all exact (messages_of system) inputs received action.body) r
-    computed_runs =
+    pub computed_deeds : Each (DeedRuns (semantics_of system) p (process_semantics (messages_of system) process) computed inputs received) (all_deeds action.body)
+    computed_deeds =
         let s = scope_of system.messages process action.guard in
-        let own = all_run system p process action.guard computed inputs received given listens
+        all_run system p process action.guard computed inputs received given listens
         (λ e range h j cells fit. (sound s cells inputs received (record { of_cells = fit; of_inputs = given; of_received = listens }) e range h j).computes)
-        (all_deeds action.body) resolved.body judged.body in
-        body_runs (semantics_of system) p (process_semantics (messages_of system) process) computed inputs received action.body own r begin.running
+        (all_deeds action.body) resolved.body judged.body
+
+    computed_runs : Runs (semantics_of system) p (process_semantics (messages_of system) process) (body_sends action.body) (exec_all computed (messages_of system) inputs received action.body) (exec_all exact (messages_of system) inputs received action.body) r
+    computed_runs = body_runs (semantics_of system) p (process_semantics (messages_of system) process) computed inputs received action.body computed_deeds r begin.running
 
     kept : (ends : Running) → (action_semantics (messages_of system) action).body inputs received r ≡ Some ends
         → KeepsRange (semantics_of system) p (process_semantics (messages_of system) process) (action_semantics (messages_of system) action) inputs received r ends

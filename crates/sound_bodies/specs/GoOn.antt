@@ -2,7 +2,7 @@
 use Rattle.std.specs.Prelude.{◌≡◌, ◌++◌, ℕ, ℤ, List, Option, Some, slice_get}
 use Rattle.tap_base.specs.declared.system.System.{System}
 use Rattle.tap_base.specs.Resolved.{IsResolved}
-use Rattle.tap_exec.specs.declared.running.Running.{Running}
+use Rattle.tap_exec.specs.Running.{Running}
 use Rattle.abstract_run.specs.Safe.{IsBeginning}
 use Rattle.tap_exec.specs.Semantics.{ActionSemantics, ProcessSemantics, semantics_of}
 use Rattle.sound_bodies.specs.Judged.{IsJudgedSystem}

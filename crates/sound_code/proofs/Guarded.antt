@@ -3,7 +3,7 @@ use Rattle.std.proofs.Common.{◌≡◌, ◌&&◌, ◌==◌, ℕ, ℤ, true, Lis
 use Rattle.std.proofs.lemmas.Bool.{and_parts, true≢false}
 use Rattle.std.proofs.lemmas.List.{length-replicate}
 use Rattle.tap_base.specs.Interval.{IsIn, truth_range}
-use Rattle.tap_exec.specs.declared.running.Running.{Running}
+use Rattle.tap_exec.specs.Running.{Running}
 use Rattle.tap_exec.specs.declared.running.TimerState.TheVariants.{Off}
 use Rattle.abstract_run.specs.Fits.{IsFitTimer}
 use Rattle.tap_base.proofs.ListFacts.{each_replicate}

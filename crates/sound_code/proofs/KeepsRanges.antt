@@ -7,7 +7,7 @@ use Rattle.tap_base.specs.declared.wire.WireField.{WireField}
 use Rattle.tap_base.specs.Interval.{from_to}
 use Rattle.tap_base.specs.Ranges.{AreAllIn}
 use Rattle.tap_base.proofs.OptionFacts.{mapped}
-use Rattle.tap_exec.specs.declared.running.Running.{Running}
+use Rattle.tap_exec.specs.Running.{Running}
 use Rattle.byte_meaning.specs.Messages.{AreFields, AreReceived}
 use Rattle.abstract_run.specs.Safe.{IsBeginning, IsFitRunning, KeepsRange}
 use Rattle.tap_exec.specs.Semantics.{ActionSemantics, ProcessSemantics}

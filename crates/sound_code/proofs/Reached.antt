@@ -6,7 +6,7 @@ use Rattle.std.proofs.lemmas.Bool.{and_parts, eqb-true}
 use Rattle.std.proofs.lemmas.Int.{ints}
 use Rattle.std.proofs.lemmas.List.{length-append, length-map, length-replicate, length-take, take-append-le, take_all}
 use Rattle.std.proofs.lemmas.Option.{option_and_then_some}
-use Rattle.tap_exec.specs.declared.running.Running.{Running}
+use Rattle.tap_exec.specs.Running.{Running}
 use Rattle.tap_base.specs.Ranges.{AreAllIn, AreIn}
 use Rattle.tap_base.specs.Option.{◌>>=◌}
 use Rattle.tap_base.proofs.ListFacts.{both_append}

@@ -1,6 +1,6 @@
 -- What verified code keeps.
 use Rattle.std.specs.Prelude.{◌≡◌, ◌≢◌, ℕ, ◌+◌, ◌≤◌, ℤ, pos, true, [], List, length, slice_get, Option, Some, None, ◌⊎◌}
-use Rattle.tap_exec.specs.declared.running.Running.{Running}
+use Rattle.tap_exec.specs.Running.{Running}
 use Rattle.tap_base.specs.Lists.{Each}
 use Rattle.tap_base.specs.Ranges.{AreAllIn}
 use Rattle.byte_meaning.specs.Messages.{IsFitSend}

@@ -12,7 +12,7 @@ use Rattle.tap_base.specs.Lists.{Each}
 use Rattle.tap_base.specs.Option.{◌>>=◌, provided}
 use Rattle.tap_base.specs.Ranges.{values_of}
 use Rattle.tap_base.proofs.ListFacts.{each_at, each_map, each_of}
-use Rattle.tap_exec.specs.declared.running.Running.{Running}
+use Rattle.tap_exec.specs.Running.{Running}
 use Rattle.tap_exec.specs.declared.running.TimerState.TheVariants as timer
 use Rattle.tap_exec.specs.Execution.{Alternative, Doing, alternative, assigned, chosen, do_all, exec, exec_all, one_runs, open_from, place_in, round, rounds, sent, started, takes, with_timer}
 use Rattle.tap_exec.specs.Front.{ChoicesAreFront, TakesFromFront}

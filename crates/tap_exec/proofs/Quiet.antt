@@ -6,10 +6,9 @@ use Rattle.tap_base.specs.declared.tree.Target.{Target}
 use Rattle.tap_base.specs.declared.wire.WireField.{WireField}
 use Rattle.tap_base.specs.Lists.{Each}
 use Rattle.tap_base.specs.Option.{◌>>=◌, each, provided}
-use Rattle.tap_exec.specs.declared.running.Running.{Running}
+use Rattle.tap_exec.specs.Running.{Running}
 use Rattle.tap_exec.specs.Execution.{Doing, assigned, do_all, place_in, sent, started, value_in}
 use Rattle.tap_exec.specs.Filling.{filled}
-use Rattle.tap_exec.specs.Left.{LeavesChoices}
 
 abbrev pub with_choices : Running → List ℤ → Running
 with_choices r rest = record r { choices = rest }
@@ -20,6 +19,11 @@ Quiet d = (r : Running) (rest : List ℤ) → d (with_choices r rest) ≡ option
 
 some_map : (o : Option Running) (rest : List ℤ) (t : Running) → o ≡ Some t → option_map (λ u. with_choices u rest) o ≡ Some (with_choices t rest)
 some_map o rest t e = ap (option_map (λ u. with_choices u rest)) e
+
+-- it took no choice: with any others it does the same, and leaves those
+pub record LeavesChoices (body : Doing) (before after : Running) : Type 0 where
+  pub left : after.choices ≡ before.choices
+  pub same : (rest : List ℤ) → body (with_choices before rest) ≡ Some (with_choices after rest)
 
 pub quiet_leaves : (d : Doing) → Quiet d → (before after : Running) → d before ≡ Some after → LeavesChoices d before after
 quiet_leaves d q before after is =

@@ -6,7 +6,7 @@ use Rattle.tap_base.specs.declared.tree.Stmt.{Stmt, the_lemmas}
 use Rattle.tap_base.specs.declared.tree.Stmt.TheVariants as stmt
 use Rattle.tap_base.specs.declared.tree.Target.{Target}
 use Rattle.tap_base.specs.declared.wire.WireField.{WireField}
-use Rattle.tap_exec.specs.declared.running.Running.{Running}
+use Rattle.tap_exec.specs.Running.{Running}
 use Rattle.tap_exec.specs.declared.running.TimerState.TheVariants as timer
 use Rattle.tap_exec.specs.Execution.{alternative, assigned, chosen, exec, exec_all, holds_in, rounds, sent, started, with_timer}
 

@@ -3,7 +3,7 @@ use Rattle.std.specs.Prelude.{◌≡◌, ℤ, List, ◌++◌, Option, Some}
 use Rattle.tap_base.specs.declared.tree.Expr.{Expr}
 use Rattle.tap_base.specs.declared.tree.Stmt.{Stmt}
 use Rattle.tap_base.specs.declared.wire.WireField.{WireField}
-use Rattle.tap_exec.specs.declared.running.Running.{Running}
+use Rattle.tap_exec.specs.Running.{Running}
 use Rattle.tap_exec.specs.Execution.{exec_all}
 
 -- The body took these choices from the front: with any others behind them it does the same, and leaves those.

@@ -1,10 +1,10 @@
-pub mod Choosing
 pub mod Computed
 pub mod Execution
 pub mod Filling
 pub mod Front
-pub mod Left
+pub mod Running
 pub mod Semantics
+pub mod Sourced
 pub mod Value
 pub mod Worked
 pub mod inner

@@ -11,7 +11,7 @@ use Rattle.tap_base.specs.declared.system.Guard.{Guard}
 use Rattle.tap_base.specs.declared.system.Guard.TheVariants as guard
 use Rattle.tap_base.specs.declared.wire.WireField.{WireField}
 use Rattle.tap_base.specs.Option.{◌>>=◌}
-use Rattle.tap_exec.specs.declared.running.Running.{Running}
+use Rattle.tap_exec.specs.Running.{Running}
 use Rattle.tap_exec.specs.Execution.{execution}
 use Rattle.tap_exec.specs.Filling.{wire_fields}
 use Rattle.tap_exec.specs.Value.{value_of}

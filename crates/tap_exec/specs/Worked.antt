@@ -1,5 +1,5 @@
 -- What statements do, worked on small cases.
-use Rattle.std.specs.Prelude.{◌≡◌, ℕ, ℤ, pos, true, false, List, [], ◌∷◌, Some, None}
+use Rattle.std.specs.Prelude.{◌≡◌, ℕ, ℤ, pos, List, [], ◌∷◌, Some, None}
 use Rattle.tap_base.specs.declared.place.Place.{Place}
 use Rattle.tap_base.specs.declared.place.Range.{Range}
 use Rattle.tap_base.specs.declared.tree.Branch.{Branch}
@@ -9,8 +9,7 @@ use Rattle.tap_base.specs.declared.tree.Target.{Target}
 use Rattle.tap_base.specs.declared.wire.WireField.{WireField}
 use Rattle.tap_base.specs.declared.tree.Stmt.{Stmt}
 use Rattle.tap_base.specs.declared.tree.Stmt.TheVariants as stmt
-use Rattle.tap_exec.specs.declared.running.Running.{Running}
-use Rattle.tap_exec.specs.Choosing.{body_chooses}
+use Rattle.tap_exec.specs.Running.{Running}
 use Rattle.tap_exec.specs.Execution.{execution}
 
 -- ---- writing shorter
@@ -75,10 +74,6 @@ set_either = stmt.If (setting 1 ∷ setting 2 ∷ []) ∷ []
 -- `if true -> x := 1 [] true -> x := 2 fi` takes the number of its branch.
 abbrev pub BranchesAreChosen : Type 0
 BranchesAreChosen = execution [] [] [] set_either (running (pos 0 ∷ []) (pos 1 ∷ [])) ≡ Some (running (pos 2 ∷ []) [])
-
--- It asks for a choice, and so does the loop that chooses. `do 2 times true -> x := 1 od` asks for none.
-abbrev pub ChoicesAreAskedFor : Type 0
-ChoicesAreAskedFor = (body_chooses set_either ≡ true) × (body_chooses choose_twice ≡ true) × (body_chooses (stmt.Loop 2 (setting 1 ∷ []) ∷ []) ≡ false)
 
 -- ---- sends
 

@@ -4,11 +4,11 @@
 ghost use Rattle.std.specs.Prelude.{◌≡◌, [], IfOk, map, slice_set};
 ghost use Rattle.tap_base.specs.Option.{each};
 ghost use Rattle.tap_exec.specs.Computed.{computed};
-ghost use Rattle.tap_exec.specs.Execution as spec;
+ghost use Rattle.tap_exec.specs.Sourced as spec;
 ghost use Rattle.tap_exec.specs.Filling.{wire_fields};
 ghost use Rattle.tap_exec.specs.inner.Does.{Does};
 
-use crate::choices::take_value;
+use crate::choices::Choices;
 use crate::evaluate::try_eval;
 use crate::fields::fill;
 use crate::running::{Outgoing, Running, TimerState};
@@ -16,18 +16,18 @@ use std::alloc::Global;
 use tap_base::{Expr, List, Message, NoMemory, Target, item};
 
 /// The value of an expression now.
-pub(crate) fn value(expr: &Expr, inputs: &[i64], received: &[i64], r: &Running) -> Option<i64>
+pub(crate) fn value<C>(expr: &Expr, inputs: &[i64], received: &[i64], r: &Running<C>) -> Option<i64>
     ensures { result ≡ spec.value_in computed [] inputs.now received.now r.now expr.now }
 {
     try_eval(expr, r.cells.as_slice(), inputs, received)
 }
 
-fn values(
+fn values<C>(
     alloc: Global,
     exprs: &[Expr],
     inputs: &[i64],
     received: &[i64],
-    r: &Running,
+    r: &Running<C>,
 ) -> Result<Option<List<i64>>, NoMemory>
     ensures { IfOk result (λ vs. vs ≡ each (spec.value_in computed [] inputs.now received.now r.now) exprs.now) }
 {
@@ -43,7 +43,7 @@ fn values(
 
 /// The cell that a target names: its first, or the one that its index says, which is none outside
 /// its array.
-fn place(target: &Target, inputs: &[i64], received: &[i64], r: &Running) -> Option<usize>
+fn place<C>(target: &Target, inputs: &[i64], received: &[i64], r: &Running<C>) -> Option<usize>
     ensures { result ≡ spec.place_in computed [] inputs.now received.now r.now target.now }
 {
     let first = target.first as usize;
@@ -58,12 +58,12 @@ fn place(target: &Target, inputs: &[i64], received: &[i64], r: &Running) -> Opti
     }
 }
 
-fn places(
+fn places<C>(
     alloc: Global,
     targets: &[Target],
     inputs: &[i64],
     received: &[i64],
-    r: &Running,
+    r: &Running<C>,
 ) -> Result<Option<List<usize>>, NoMemory>
     ensures { IfOk result (λ ps. ps ≡ each (spec.place_in computed [] inputs.now received.now r.now) targets.now) }
 {
@@ -96,13 +96,13 @@ fn write_all(cells: &mut List<i64>, places: &[usize], values: &[i64])
     }
 }
 
-pub(crate) fn assign(
+pub(crate) fn assign<C>(
     alloc: Global,
     targets: &[Target],
     exprs: &[Expr],
     inputs: &[i64],
     received: &[i64],
-    r: &mut Running,
+    r: &mut Running<C>,
 ) -> Result<bool, NoMemory>
     ensures { IfOk result (λ done. Does (spec.assigned computed [] inputs.now received.now targets.now exprs.now r.old) done r.new) }
 {
@@ -116,20 +116,25 @@ pub(crate) fn assign(
     Ok(true)
 }
 
-pub(crate) fn choose(target: &Target, inputs: &[i64], received: &[i64], r: &mut Running) -> bool
-    ensures { Does (spec.chosen computed [] inputs.now received.now target.now r.old) result r.new }
+pub(crate) fn choose<C: Choices>(
+    target: &Target,
+    inputs: &[i64],
+    received: &[i64],
+    r: &mut Running<C>,
+) -> Result<bool, NoMemory>
+    ensures { IfOk result (λ done. Does (spec.chosen computed [] inputs.now received.now C.takes target.now r.old) done r.new) }
 {
     let Some(at) = place(target, inputs, received, r) else {
-        return false;
+        return Ok(false);
     };
-    let Some(x) = take_value(target.range, &mut r.choices) else {
-        return false;
+    let Some(x) = r.choices.take_value(target.range)? else {
+        return Ok(false);
     };
     write(&mut r.cells, at, x);
-    true
+    Ok(true)
 }
 
-pub(crate) fn send(
+pub(crate) fn send<C>(
     alloc: Global,
     messages: &[Message],
     message: u32,
@@ -137,7 +142,7 @@ pub(crate) fn send(
     to: u32,
     inputs: &[i64],
     received: &[i64],
-    r: &mut Running,
+    r: &mut Running<C>,
 ) -> Result<bool, NoMemory>
     ensures { IfOk result (λ done. Does (spec.sent computed (map wire_fields messages.now) inputs.now received.now message given.now to r.old) done r.new) }
 {
@@ -158,12 +163,12 @@ pub(crate) fn send(
     Ok(true)
 }
 
-pub(crate) fn start(
+pub(crate) fn start<C>(
     timer: u32,
     delay: &Expr,
     inputs: &[i64],
     received: &[i64],
-    r: &mut Running,
+    r: &mut Running<C>,
 ) -> bool
     ensures { Does (spec.started computed [] inputs.now received.now timer delay.now r.old) result r.new }
 {

@@ -1,27 +1,29 @@
 //! What statements do.
 
-ghost use Rattle.std.specs.Prelude.{◌≡◌, [], IfOk, map};
+ghost use Rattle.std.specs.Prelude.{◌≡◌, ◌<◌, ◌^◌, [], IfOk, IfSome, map};
+ghost use Rattle.tap_base.specs.Lists.{Each};
 ghost use Rattle.tap_exec.specs.Computed.{computed};
-ghost use Rattle.tap_exec.specs.Execution as spec;
+ghost use Rattle.tap_exec.specs.Sourced as spec;
 ghost use Rattle.tap_exec.specs.Filling.{wire_fields};
 ghost use Rattle.tap_exec.specs.inner.Does.{Does, DoesRound};
 
 use crate::assign::{assign, choose, send, set_timer, start, value};
-use crate::choices::take_number;
+use crate::choices::Choices;
 use crate::running::{Running, TimerState};
 use std::alloc::Global;
 use tap_base::{Branch, List, Message, NoMemory, Stmt, item};
 
 /// The numbers of the branches whose guards hold. No guard reads the declared messages: `[]` stands
 /// for any of them.
-fn open_branches(
+fn open_branches<C: Choices>(
     alloc: Global,
     branches: &[Branch],
     inputs: &[i64],
     received: &[i64],
-    r: &Running,
+    r: &Running<C>,
 ) -> Result<Option<List<usize>>, NoMemory>
-    ensures { IfOk result (λ ks. ks ≡ spec.open_from 0 (map (spec.alternative computed [] inputs.now received.now) branches.now) r.now) }
+    ensures ready { IfOk result (λ ks. ks ≡ spec.open_from 0 (map (spec.alternative computed [] inputs.now received.now C.takes) branches.now) r.now) }
+    ensures few { IfOk result (λ found. IfSome found (Each (λ n. n < 2 ^ 63))) }
 {
     let mut all = List::new(alloc);
     for at in 0..branches.len() {
@@ -37,16 +39,16 @@ fn open_branches(
 
 /// Runs one branch.
 #[cycle(exec)]
-fn run_branch(
+fn run_branch<C: Choices>(
     alloc: Global,
     messages: &[Message],
     branches: &[Branch],
     at: usize,
     inputs: &[i64],
     received: &[i64],
-    r: &mut Running,
+    r: &mut Running<C>,
 ) -> Result<Option<bool>, NoMemory>
-    ensures { IfOk result (λ ran. DoesRound (spec.one_runs (map (spec.alternative computed (map wire_fields messages.now) inputs.now received.now) branches.now) at r.old) ran r.new) }
+    ensures { IfOk result (λ ran. DoesRound (spec.one_runs (map (spec.alternative computed (map wire_fields messages.now) inputs.now received.now C.takes) branches.now) at r.old) ran r.new) }
 {
     let Some(chosen) = item(branches, at) else {
         return Ok(None);
@@ -57,22 +59,23 @@ fn run_branch(
 
 /// One round: none of these branches runs, the only one runs, or the next choice says which.
 #[cycle(exec)]
-fn round(
+fn round<C: Choices>(
     alloc: Global,
     messages: &[Message],
     branches: &[Branch],
     ready: &[usize],
     inputs: &[i64],
     received: &[i64],
-    r: &mut Running,
+    r: &mut Running<C>,
 ) -> Result<Option<bool>, NoMemory>
-    ensures { IfOk result (λ ran. DoesRound (spec.round (map (spec.alternative computed (map wire_fields messages.now) inputs.now received.now) branches.now) ready.now r.old) ran r.new) }
+    requires { Each (λ n. n < 2 ^ 63) ready.now }
+    ensures { IfOk result (λ ran. DoesRound (spec.round C.takes (map (spec.alternative computed (map wire_fields messages.now) inputs.now received.now C.takes) branches.now) ready.now r.old) ran r.new) }
 {
     match ready {
         [] => Ok(Some(false)),
         [only] => run_branch(alloc, messages, branches, *only, inputs, received, r),
         _ => {
-            let Some(number) = take_number(ready, &mut r.choices) else {
+            let Some(number) = r.choices.take_number(ready)? else {
                 return Ok(None);
             };
             let at = number.unsigned_abs() as usize;
@@ -83,16 +86,16 @@ fn round(
 
 /// At most so many rounds.
 #[cycle(exec)]
-fn rounds(
+fn rounds<C: Choices>(
     alloc: Global,
     messages: &[Message],
     count: u32,
     branches: &[Branch],
     inputs: &[i64],
     received: &[i64],
-    r: &mut Running,
+    r: &mut Running<C>,
 ) -> Result<bool, NoMemory>
-    ensures { IfOk result (λ done. Does (spec.rounds count (map (spec.alternative computed (map wire_fields messages.now) inputs.now received.now) branches.now) r.old) done r.new) }
+    ensures { IfOk result (λ done. Does (spec.rounds C.takes count (map (spec.alternative computed (map wire_fields messages.now) inputs.now received.now C.takes) branches.now) r.old) done r.new) }
 {
     for _i in 0..count {
         let Some(ready) = open_branches(alloc, branches, inputs, received, r)? else {
@@ -110,15 +113,15 @@ fn rounds(
 
 /// Runs a statement, and says whether it could be run with these choices.
 #[cycle(exec)]
-fn exec(
+fn exec<C: Choices>(
     alloc: Global,
     messages: &[Message],
     stmt: &Stmt,
     inputs: &[i64],
     received: &[i64],
-    r: &mut Running,
+    r: &mut Running<C>,
 ) -> Result<bool, NoMemory>
-    ensures { IfOk result (λ done. Does (spec.exec computed (map wire_fields messages.now) inputs.now received.now stmt.now r.old) done r.new) }
+    ensures { IfOk result (λ done. Does (spec.exec computed (map wire_fields messages.now) inputs.now received.now C.takes stmt.now r.old) done r.new) }
 {
     match stmt {
         Stmt::Skip => Ok(true),
@@ -126,7 +129,7 @@ fn exec(
             let (targets, values) = (targets.as_slice(), values.as_slice());
             assign(alloc, targets, values, inputs, received, r)
         }
-        Stmt::Choose { target } => Ok(choose(target, inputs, received, r)),
+        Stmt::Choose { target } => choose(target, inputs, received, r),
         Stmt::Send {
             message,
             values,
@@ -153,15 +156,15 @@ fn exec(
 
 /// Runs statements in order, and says whether they could be run with these choices.
 #[cycle(exec)]
-pub fn exec_all(
+pub fn exec_all<C: Choices>(
     alloc: Global,
     messages: &[Message],
     stmts: &[Stmt],
     inputs: &[i64],
     received: &[i64],
-    r: &mut Running,
+    r: &mut Running<C>,
 ) -> Result<bool, NoMemory>
-    ensures { IfOk result (λ done. Does (spec.exec_all computed (map wire_fields messages.now) inputs.now received.now stmts.now r.old) done r.new) }
+    ensures { IfOk result (λ done. Does (spec.exec_all computed (map wire_fields messages.now) inputs.now received.now C.takes stmts.now r.old) done r.new) }
 {
     for stmt in stmts {
         if !exec(alloc, messages, stmt, inputs, received, r)? {

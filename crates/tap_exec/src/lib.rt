@@ -3,7 +3,6 @@
 
 mod assign;
 mod choices;
-mod choosing;
 mod evaluate;
 mod execute;
 mod fields;
@@ -11,10 +10,10 @@ mod laws;
 mod running;
 mod worked;
 
-pub use choosing::chooses;
+pub use choices::Choices;
 pub use evaluate::try_eval;
 pub use execute::exec_all;
 pub use fields::fill;
-pub use laws::{choices_are_front, choices_are_left};
+pub use laws::choices_are_front;
 pub use running::{Outgoing, Running, TimerState};
 pub use worked::statements_are_worked;

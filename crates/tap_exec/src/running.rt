@@ -2,17 +2,16 @@
 
 use tap_base::List;
 
-/// The cells and timers of a process while a body of it runs, what was sent so far, and the choices
-/// that are left to it.
+/// The cells and timers of a process while a body of it runs, what was sent so far, and what gives it
+/// its choices.
 #[derive(Debug, Drop)]
-pub struct Running {
+pub struct Running<C> {
     /// The cells of all variables, in order of declaration.
     pub cells: List<i64>,
     pub timers: List<TimerState>,
     /// The sends so far, in send order.
     pub sends: List<Outgoing>,
-    /// The choices that were not taken yet, the next one first.
-    pub choices: List<i64>,
+    pub choices: C,
 }
 
 /// A timer of a process. Times and delays are in milliseconds.

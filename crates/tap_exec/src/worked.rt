@@ -1,6 +1,6 @@
 //! The definitions worked on small cases.
 
-ghost use Rattle.tap_exec.specs.Worked.{BranchesAreChosen, ChoicesAreAskedFor, ChoicesAreInRange, ChoicesAreTaken, ElementIsWritten, FixedIsFilledIn, FixedIsNotGiven, OutsideIsNone, SwapSwaps};
+ghost use Rattle.tap_exec.specs.Worked.{BranchesAreChosen, ChoicesAreInRange, ChoicesAreTaken, ElementIsWritten, FixedIsFilledIn, FixedIsNotGiven, OutsideIsNone, SwapSwaps};
 
 /// What statements do.
 pub fn statements_are_worked()
@@ -10,7 +10,6 @@ pub fn statements_are_worked()
     ensures taken { ChoicesAreTaken }
     ensures in_range { ChoicesAreInRange }
     ensures branches { BranchesAreChosen }
-    ensures asked_for { ChoicesAreAskedFor }
     ensures filled { FixedIsFilledIn }
     ensures not_given { FixedIsNotGiven }
 {}

@@ -7,7 +7,6 @@ mod NamesAreWords
 pub mod OneLayout
 pub mod OneOffence
 pub mod ResolvedWires
-pub mod RunTexts
 pub mod Runs
 mod TokenWords
 pub mod TreesRead

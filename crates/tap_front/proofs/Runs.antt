@@ -1,5 +1,4 @@
--- A system that a text is accepted as is checked, so it is safe, and runs where it asks for no choice; and its messages are
--- told apart.
+-- A system that a text is accepted as is checked, so it is safe and can be run; and its messages are told apart.
 use Rattle.tap_base.specs.declared.system.System.{System}
 use Rattle.tap_base.specs.Wires.{wire_of}
 use Rattle.byte_meaning.specs.Messages.{Receives}
@@ -23,7 +22,7 @@ accepted_is_safe text system h =
     record { messages = checked.resolved.messages; begins = sound.begins; keeps = sound.keeps; computed = sound.computes }
 
 pub accepted_runs : AcceptedRuns
-accepted_runs text system h chooses_none = checked_runs system (accepted_is_checked text system h) chooses_none
+accepted_runs text system h = checked_runs system (accepted_is_checked text system h)
 
 -- messages that can be laid out are told apart in what a run asks of the system
 pub told_apart : (system : System) → IsLaidOut (wire_of system) → TellsApart (messages_of system) (Receives (semantics_of system))

@@ -1,11 +1,10 @@
 -- What the definitions of texts promise by themselves.
-use Rattle.std.specs.Prelude.{◌≡◌, ℕ, ◌≤◌, false, List, length, codes}
-use Rattle.abstract_run.specs.Runnable.{IsRunnable}
+use Rattle.std.specs.Prelude.{◌≡◌, ℕ, ◌≤◌, List, length, codes}
+use Rattle.exact_choice.specs.Runnable.{IsRunnable}
 use Rattle.byte_meaning.specs.Messages.{Receives}
 use Rattle.abstract_run.specs.Safe.{IsSafe}
 use Rattle.tap_exec.specs.Semantics.{messages_of, semantics_of}
 use Rattle.byte_meaning.specs.Laws.{SpellingsMean}
-use Rattle.tap_exec.specs.Choosing.{system_chooses}
 use Rattle.tap_base.specs.declared.ast.Ast.{Ast}
 use Rattle.tap_base.specs.declared.refusal.Refusal.{Refusal}
 use Rattle.tap_base.specs.declared.system.System.{System}
@@ -52,9 +51,9 @@ AcceptedIsChecked = (text : List ℕ) (system : System) → Accepted text system
 abbrev pub AcceptedIsSafe : Type 0
 AcceptedIsSafe = (text : List ℕ) (system : System) → Accepted text system → IsSafe system
 
--- A system that a text is accepted as and that asks for no choice can be run without choices.
+-- A system that a text is accepted as can be run.
 abbrev pub AcceptedRuns : Type 0
-AcceptedRuns = (text : List ℕ) (system : System) → Accepted text system → system_chooses system ≡ false → IsRunnable system
+AcceptedRuns = (text : List ℕ) (system : System) → Accepted text system → IsRunnable system
 
 -- In a system that a text is accepted as, the spelling of a message that is received means this message with its values, and
 -- nothing else.

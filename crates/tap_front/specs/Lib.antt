@@ -4,5 +4,4 @@ pub mod Laws
 pub mod Layouts
 pub mod Lines
 pub mod Offences
-pub mod Runs
 pub mod inner

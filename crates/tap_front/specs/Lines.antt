@@ -4,9 +4,8 @@ use Rattle.std.specs.Fmt.{decimal}
 use Rattle.tap_base.specs.declared.place.Place.{Place}
 use Rattle.tap_base.specs.declared.refusal.RefusalCode.{RefusalCode}
 use Rattle.tap_base.specs.declared.refusal.RefusalCode.TheVariants as code
-use Rattle.tap_lexer.specs.Bytes.{start}
 use Rattle.tap_front.specs.declared.offence.Offence.{Offence}
-use Rattle.tap_front.specs.declared.offence.Offence.TheVariants.{Alike, Coded, Outside}
+use Rattle.tap_front.specs.declared.offence.Offence.TheVariants.{Alike, Coded}
 
 -- a code as it is printed
 abbrev pub code_word : RefusalCode → List ℕ
@@ -34,22 +33,19 @@ code_word code.W5 = codes "W5"
 code_word code.W6 = codes "W6"
 code_word code.W7 = codes "W7"
 
--- the code of an offence as it is printed: `S0` is one for the time being
+-- the code of an offence as it is printed
 abbrev pub offence_code : Offence → List ℕ
 offence_code (Coded r) = code_word r.code
 offence_code (Alike place first second) = codes "M2"
-offence_code Outside = codes "S0"
 
 abbrev pub offence_place : Offence → Place
 offence_place (Coded r) = r.place
 offence_place (Alike place first second) = place
-offence_place Outside = start
 
 -- what is written behind the place: the names of two messages that are not told apart
 abbrev pub offence_names : Offence → List ℕ
 offence_names (Coded r) = []
 offence_names (Alike place first second) = codes " " ++ first ++ codes " " ++ second
-offence_names Outside = []
 
 -- the line that is written of an offence
 abbrev pub refused_line : Offence → List ℕ

@@ -17,7 +17,7 @@ use Rattle.tap_expr.specs.declared.fault.ParseFault.{ParseFault}
 use Rattle.tap_expr.specs.declared.fault.ParseFault.TheVariants as unread
 use Rattle.tap_front.specs.Accepting.{Accepted, IsReadAs, ResolvesTo, longest_text}
 use Rattle.tap_front.specs.declared.offence.Offence.{Offence}
-use Rattle.tap_front.specs.declared.offence.Offence.TheVariants.{Alike, Coded, Outside}
+use Rattle.tap_front.specs.declared.offence.Offence.TheVariants.{Alike, Coded}
 use Rattle.tap_front.specs.declared.texts.TextFault.{TextFault}
 use Rattle.tap_front.specs.declared.texts.TextFault.TheVariants as fault
 
@@ -44,7 +44,6 @@ pub data Offends (text : List ℕ) : Offence → Type 0 where
 abbrev pub IsMisspelling : List ℕ → Offence → Type 0
 IsMisspelling text (Coded r) = Misspells text r
 IsMisspelling text (Alike place first second) = ⊥
-IsMisspelling text Outside = ⊥
 
 -- what reading a text answers: the tree that it is read as, or its first offence;
 abbrev pub TreeReads : List ℕ → Result Ast ParseFault → Type 0

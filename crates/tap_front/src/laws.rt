@@ -40,7 +40,7 @@ pub fn accepted_is_safe()
     ensures { AcceptedIsSafe }
 {}
 
-/// A system that a text is accepted as, and in which no statement may ask for a choice, can be run without choices.
+/// A system that a text is accepted as can be run.
 pub fn accepted_runs()
     ensures { AcceptedRuns }
 {}

@@ -5,7 +5,6 @@ mod accepted;
 mod laws;
 mod layouts;
 mod offence;
-mod running;
 mod texts;
 
 pub use accepted::acceptance;
@@ -15,5 +14,4 @@ pub use laws::{
     printed_again, resolved_is_whole,
 };
 pub use offence::{Offence, refused_line};
-pub use running::{accept_to_run, one_offence_for_run, one_system_of_run, run_never_refused};
 pub use texts::{LONGEST_TEXT, TOO_LONG, TextFault, accept, tree_of};

@@ -18,8 +18,6 @@ pub enum Offence {
         first: Text,
         second: Text,
     },
-    /// None of these, but the system is none that can be run so far: `S0` at 1:1, for the time being.
-    Outside,
 }
 
 impl Offence {
@@ -30,7 +28,6 @@ impl Offence {
         match self {
             Offence::Coded(refusal) => code_word(refusal.code),
             Offence::Alike { .. } => "M2",
-            Offence::Outside => "S0",
         }
     }
 
@@ -41,7 +38,6 @@ impl Offence {
         match self {
             Offence::Coded(refusal) => refusal.place,
             Offence::Alike { place, .. } => *place,
-            Offence::Outside => Place { line: 1, column: 1 },
         }
     }
 }

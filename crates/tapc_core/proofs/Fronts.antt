@@ -9,8 +9,7 @@ use Rattle.tap_base.specs.Wires.{wire_of}
 use Rattle.tap_exec.specs.Semantics.{messages_of, process_semantics, semantics_of}
 use Rattle.run_text.specs.Names.{AreNames}
 use Rattle.run_text.specs.TraceText.{names_in}
-use Rattle.tap_front.specs.Accepting.{TellsApart}
-use Rattle.tap_front.specs.Runs.{CanRun}
+use Rattle.tap_front.specs.Accepting.{Accepted, TellsApart}
 use Rattle.tap_front.proofs.Named.{names_tell_apart}
 use Rattle.tap_front.proofs.ResolvedWires.{resolved_wire}
 use Rattle.tap_front.proofs.Runs.{accepted_is_checked}
@@ -26,13 +25,13 @@ apart_names system h =
     let P : List (List ℕ) → Type 0 = λ names. Each IsWord names × AreDistinct names in
     subst P (same_names (messages_of system) system.processes) h
 
-pub names_apart : (text : List ℕ) (system : System) → CanRun text system → AreNames (names_in (semantics_of system))
-names_apart text system h = apart_names system (names_tell_apart text system h.accepted)
+pub names_apart : (text : List ℕ) (system : System) → Accepted text system → AreNames (names_in (semantics_of system))
+names_apart text system h = apart_names system (names_tell_apart text system h)
 
 -- its wire can be laid out
-pub has_layout : (text : List ℕ) (system : System) → CanRun text system → HasLayout (wire_of system)
+pub has_layout : (text : List ℕ) (system : System) → Accepted text system → HasLayout (wire_of system)
 has_layout text system h = record {
-  asked = resolved_wire system (accepted_is_checked text system h.accepted).resolved;
-  short = h.accepted.laid_out.short;
-  apart = h.accepted.laid_out.apart;
+  asked = resolved_wire system (accepted_is_checked text system h).resolved;
+  short = h.laid_out.short;
+  apart = h.laid_out.apart;
 }

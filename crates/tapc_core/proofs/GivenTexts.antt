@@ -3,7 +3,7 @@ use Rattle.std.proofs.Common.{◌≡◌, ℕ, List, Option, Some, None, IfSome, 
 use Rattle.tap_base.specs.declared.system.Inputs.{Inputs}
 use Rattle.tap_base.specs.declared.system.System.{System}
 use Rattle.tap_exec.specs.Semantics.{Semantics, semantics_of}
-use Rattle.tap_front.specs.Runs.{CanRun}
+use Rattle.tap_front.specs.Accepting.{Accepted}
 use Rattle.tap_settings.specs.GivenInputs.{inputs_given}
 use Rattle.tap_settings.specs.SettingText.{Assignment}
 use Rattle.tapc_core.specs.Run.{FileGives, Gives, HoldsSystem}
@@ -19,9 +19,9 @@ where_told o settings m inputs h =
     if_some o (λ t. t ≡ h.text) P (λ t e. subst P (sym e) h.gives) h.text_is
 
 -- a text that is told is the one that can be run
-pub held_told : (o : Option (List ℕ)) (system : System) → HoldsSystem o system → IfSome o (λ text. CanRun text system)
+pub held_told : (o : Option (List ℕ)) (system : System) → HoldsSystem o system → IfSome o (λ text. Accepted text system)
 held_told o system h =
-    let P : List ℕ → Type 0 = λ text. CanRun text system in
+    let P : List ℕ → Type 0 = λ text. Accepted text system in
     if_some o (λ t. t ≡ h.text) P (λ t e. subst P (sym e) h.runs) h.text_is
 
 -- with the inputs that settings give its system, a file gives what the system says

@@ -3,6 +3,7 @@ pub mod FrontRead
 pub mod Fronts
 pub mod GivenTexts
 pub mod Outputs
+pub mod SeedTexts
 pub mod SettingLists
 pub mod SettingWords
 pub mod Steps

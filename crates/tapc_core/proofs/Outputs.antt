@@ -19,7 +19,7 @@ use Rattle.run_text.proofs.RunLines.{whole_trace}
 use Rattle.tap_front.specs.Lines.{refused_line}
 use Rattle.tap_front.specs.declared.offence.Offence.{Offence}
 use Rattle.tapc_core.specs.Lines.{bad_line, full_line, no_memory_line, read_fault_line}
-use Rattle.tapc_core.specs.Run.{Played, Task}
+use Rattle.tapc_core.specs.Run.{IsRunFrom, Played, Task}
 use Rattle.tapc_core.specs.Written.{IsWritten, Writes}
 use Rattle.tapc_core.specs.commands.World.{IsBadTrace, IsFrontOfTrace, IsFullTrace, IsPlayed, IsTrace, IsUnfinished, OfWorld}
 use Rattle.tapc_core.specs.declared.files.FileFault.{FileFault}
@@ -31,7 +31,7 @@ use Rattle.tapc_core.specs.inner.FileFaults.{GivesUp}
 use Rattle.tapc_core.specs.inner.Playing.{AreOf, Broken, IsNext, Passed, Progress}
 use Rattle.tapc_core.proofs.GivenTexts.{if_some}
 use Rattle.tapc_core.proofs.Steps.{answered, appends_more, appends_none}
-use Rattle.abstract_run.specs.Runnable.{IsRunnable}
+use Rattle.exact_choice.specs.Runnable.{IsRunnable}
 use Rattle.timed_runs.proofs.DelaysKept.{systems_keep}
 use Rattle.world_run.specs.Served.{full_from}
 use Rattle.world_run.proofs.Lines.{lines_append}
@@ -105,16 +105,16 @@ begins names schedule rest events (inr h) = ([], h.1 ∙ sym (append-nil (events
 
 -- ---- outputs
 
-abbrev played : {system : System} {inputs : Inputs} {schedule rest : List ℕ} {number : ℕ} {s : State} {before now : Option (List ℕ)} {page : List ℕ} {task : Task}
-    → AreOf system inputs schedule task → Progress (semantics_of system) (opening_state (semantics_of system) inputs) schedule rest number s before now page → Played task
-played {system = system} {inputs = inputs} {s = s} {task = task} of p = record {
+abbrev played : {seed : ℕ} {system : System} {inputs : Inputs} {schedule rest : List ℕ} {number : ℕ} {s : State} {before now : Option (List ℕ)} {page : List ℕ} {task : Task}
+    → AreOf seed system inputs schedule task → Progress seed (semantics_of system) (opening_state (semantics_of system) inputs) schedule rest number s before now page → Played task
+played {seed = seed} {system = system} {inputs = inputs} {s = s} {task = task} of p = record {
   semantics = semantics_of system;
   inputs = inputs;
   gives = of.gives;
   events = p.events;
   labels = p.labels;
   last = s;
-  run = p.run;
+  run = subst (λ n. IsRunFrom n (semantics_of system) (opening_state (semantics_of system) inputs) p.events p.labels s) (sym of.seed_is) p.run;
   delays = systems_keep system inputs p.labels s (answered (semantics_of system) (opening_state (semantics_of system) inputs) s p.events p.labels p.run.answers);
 }
 
@@ -123,8 +123,8 @@ settled_end : (m : Semantics) (s t : State) (es : List Event) (labels : List Lab
 settled_end m s t [] labels settled h = ap (λ x. x.falling) h.1 ∙ settled
 settled_end m s t (e ∷ es) labels settled h = settled_end m h.2 t es h.1 h.4.settled h.5
 
-pub trace_output : {system : System} {inputs : Inputs} {schedule : List ℕ} {number : ℕ} {s : State} {before now : Option (List ℕ)} {page : List ℕ} {task : Task}
-    → IsRunnable system → Fits (semantics_of system) (opening_state (semantics_of system) inputs) → AreOf system inputs schedule task → (p : Progress (semantics_of system) (opening_state (semantics_of system) inputs) schedule [] number s before now page)
+pub trace_output : {seed : ℕ} {system : System} {inputs : Inputs} {schedule : List ℕ} {number : ℕ} {s : State} {before now : Option (List ℕ)} {page : List ℕ} {task : Task}
+    → IsRunnable system → Fits (semantics_of system) (opening_state (semantics_of system) inputs) → AreOf seed system inputs schedule task → (p : Progress seed (semantics_of system) (opening_state (semantics_of system) inputs) schedule [] number s before now page)
     → IsTrace task (p.put ++ (page ++ lines_text (last_lines (semantics_of system) s)))
 trace_output {system = system} {inputs = inputs} {schedule = schedule} {s = s} {page = page} {task = task} runnable fits of p =
     let m = semantics_of system in
@@ -152,13 +152,13 @@ bad_after events rest number count few (inl above) = inl (omega (arith, count, f
 bad_after events rest number count few (inr bad) = inr bad
 
 -- the text of the lines so far
-so_far : {m : Semantics} {start : State} {schedule rest : List ℕ} {number : ℕ} {s : State} {before now : Option (List ℕ)} {page : List ℕ} → (p : Progress m start schedule rest number s before now page)
+so_far : {seed : ℕ} {m : Semantics} {start : State} {schedule rest : List ℕ} {number : ℕ} {s : State} {before now : Option (List ℕ)} {page : List ℕ} → (p : Progress seed m start schedule rest number s before now page)
     → option_map lines_text (run_lines m start p.labels) ≡ Some (p.put ++ page)
 so_far p = ap (option_map lines_text) p.shown ∙ ap Some p.is
 
-pub bad_output : {system : System} {inputs : Inputs} {schedule rest : List ℕ} {number : ℕ} {s : State} {before now : Option (List ℕ)} {page : List ℕ} {task : Task}
-    → AreOf system inputs schedule task → (rest ≡ [] → ⊥) → (most_events < number) ⊎ BeginsBadly (names_in (semantics_of system)) rest
-    → (p : Progress (semantics_of system) (opening_state (semantics_of system) inputs) schedule rest number s before now page) → IsBadTrace task (p.put ++ (page ++ bad_line number))
+pub bad_output : {seed : ℕ} {system : System} {inputs : Inputs} {schedule rest : List ℕ} {number : ℕ} {s : State} {before now : Option (List ℕ)} {page : List ℕ} {task : Task}
+    → AreOf seed system inputs schedule task → (rest ≡ [] → ⊥) → (most_events < number) ⊎ BeginsBadly (names_in (semantics_of system)) rest
+    → (p : Progress seed (semantics_of system) (opening_state (semantics_of system) inputs) schedule rest number s before now page) → IsBadTrace task (p.put ++ (page ++ bad_line number))
 bad_output {system = system} {schedule = schedule} {rest = rest} {number = number} {page = page} {task = task} of more bad p =
     let names = names_in (semantics_of system) in
     record {
@@ -185,9 +185,9 @@ meets {names = names} {schedule = schedule} {rest = rest} {events = events} list
   one_more = let few = next.few in omega (arith, few, count);
 }
 
-pub full_output : {system : System} {inputs : Inputs} {schedule rest : List ℕ} {number cells : ℕ} {s : State} {before now : Option (List ℕ)} {page : List ℕ} {task : Task}
-    → AreOf system inputs schedule task → IsNext (names_in (semantics_of system)) rest number → full_from < cells → cells ≡ cells_in s
-    → (p : Progress (semantics_of system) (opening_state (semantics_of system) inputs) schedule rest number s before now page) → IsFullTrace task (p.put ++ (page ++ full_line cells))
+pub full_output : {seed : ℕ} {system : System} {inputs : Inputs} {schedule rest : List ℕ} {number cells : ℕ} {s : State} {before now : Option (List ℕ)} {page : List ℕ} {task : Task}
+    → AreOf seed system inputs schedule task → IsNext (names_in (semantics_of system)) rest number → full_from < cells → cells ≡ cells_in s
+    → (p : Progress seed (semantics_of system) (opening_state (semantics_of system) inputs) schedule rest number s before now page) → IsFullTrace task (p.put ++ (page ++ full_line cells))
 full_output {system = system} {schedule = schedule} {cells = cells} {s = s} {page = page} {task = task} of next many same p =
     record {
       run = played of p;
@@ -198,8 +198,8 @@ full_output {system = system} {schedule = schedule} {cells = cells} {s = s} {pag
       is = sym (append_assoc p.put page (full_line cells)) ∙ ap (λ n. (p.put ++ page) ++ full_line n) same;
     }
 
-front_output : {system : System} {inputs : Inputs} {schedule rest : List ℕ} {number : ℕ} {s : State} {before now : Option (List ℕ)} {page : List ℕ} {task : Task}
-    → AreOf system inputs schedule task → (p : Progress (semantics_of system) (opening_state (semantics_of system) inputs) schedule rest number s before now page) → IsFrontOfTrace task (p.put ++ page)
+front_output : {seed : ℕ} {system : System} {inputs : Inputs} {schedule rest : List ℕ} {number : ℕ} {s : State} {before now : Option (List ℕ)} {page : List ℕ} {task : Task}
+    → AreOf seed system inputs schedule task → (p : Progress seed (semantics_of system) (opening_state (semantics_of system) inputs) schedule rest number s before now page) → IsFrontOfTrace task (p.put ++ page)
 front_output {system = system} {schedule = schedule} {rest = rest} {task = task} of p =
     let names = names_in (semantics_of system) in
     let b = begins names schedule rest p.events p.passed in
@@ -209,8 +209,8 @@ front_output {system = system} {schedule = schedule} {rest = rest} {task = task}
       is = so_far p;
     }
 
-pub unfinished_output : {system : System} {inputs : Inputs} {schedule rest : List ℕ} {number : ℕ} {s : State} {before now : Option (List ℕ)} {page : List ℕ} {task : Task}
-    → AreOf system inputs schedule task → (p : Progress (semantics_of system) (opening_state (semantics_of system) inputs) schedule rest number s before now page)
+pub unfinished_output : {seed : ℕ} {system : System} {inputs : Inputs} {schedule rest : List ℕ} {number : ℕ} {s : State} {before now : Option (List ℕ)} {page : List ℕ} {task : Task}
+    → AreOf seed system inputs schedule task → (p : Progress seed (semantics_of system) (opening_state (semantics_of system) inputs) schedule rest number s before now page)
     → IsUnfinished task (p.put ++ (page ++ no_memory_line))
 unfinished_output {page = page} of p = record {
   front = p.put ++ page;
@@ -218,8 +218,8 @@ unfinished_output {page = page} of p = record {
   is = sym (append_assoc p.put page no_memory_line);
 }
 
-pub broken_output : {system : System} {inputs : Inputs} {schedule : List ℕ} {before now : Option (List ℕ)} {task : Task}
-    → AreOf system inputs schedule task → Broken (semantics_of system) (opening_state (semantics_of system) inputs) schedule before now → Writes (OfWorld task) WriteFault before now
+pub broken_output : {seed : ℕ} {system : System} {inputs : Inputs} {schedule : List ℕ} {before now : Option (List ℕ)} {task : Task}
+    → AreOf seed system inputs schedule task → Broken seed (semantics_of system) (opening_state (semantics_of system) inputs) schedule before now → Writes (OfWorld task) WriteFault before now
 broken_output {system = system} {before = before} {now = now} of b =
     let p = b.progress in
     record {
@@ -239,23 +239,23 @@ broken_output {system = system} {before = before} {now = now} of b =
 -- ---- the ends of a run
 
 -- the same page, as it was handed on
-pub on_page : {m : Semantics} {start : State} {schedule rest : List ℕ} {number : ℕ} {s : State} {before now : Option (List ℕ)} {page given : List ℕ}
-    → given ≡ page → Progress m start schedule rest number s before now page → Progress m start schedule rest number s before now given
-on_page {m = m} {start = start} {schedule = schedule} {rest = rest} {number = number} {s = s} {before = before} {now = now} e p =
-    subst (λ x. Progress m start schedule rest number s before now x) (sym e) p
+pub on_page : {seed : ℕ} {m : Semantics} {start : State} {schedule rest : List ℕ} {number : ℕ} {s : State} {before now : Option (List ℕ)} {page given : List ℕ}
+    → given ≡ page → Progress seed m start schedule rest number s before now page → Progress seed m start schedule rest number s before now given
+on_page {seed = seed} {m = m} {start = start} {schedule = schedule} {rest = rest} {number = number} {s = s} {before = before} {now = now} e p =
+    subst (λ x. Progress seed m start schedule rest number s before now x) (sym e) p
 
 -- the same state, as the run began in it
-pub progress_from : {m : Semantics} {start begun : State} {schedule rest : List ℕ} {number : ℕ} {s : State} {before now : Option (List ℕ)} {page : List ℕ}
-    → begun ≡ start → Progress m begun schedule rest number s before now page → Progress m start schedule rest number s before now page
-progress_from {m = m} {schedule = schedule} {rest = rest} {number = number} {s = s} {before = before} {now = now} {page = page} e p =
-    subst (λ x. Progress m x schedule rest number s before now page) e p
+pub progress_from : {seed : ℕ} {m : Semantics} {start begun : State} {schedule rest : List ℕ} {number : ℕ} {s : State} {before now : Option (List ℕ)} {page : List ℕ}
+    → begun ≡ start → Progress seed m begun schedule rest number s before now page → Progress seed m start schedule rest number s before now page
+progress_from {seed = seed} {m = m} {schedule = schedule} {rest = rest} {number = number} {s = s} {before = before} {now = now} {page = page} e p =
+    subst (λ x. Progress seed m x schedule rest number s before now page) e p
 
-pub broken_from : {m : Semantics} {start begun : State} {schedule : List ℕ} {before now : Option (List ℕ)} → begun ≡ start → Broken m begun schedule before now → Broken m start schedule before now
-broken_from {m = m} {schedule = schedule} {before = before} {now = now} e b = subst (λ x. Broken m x schedule before now) e b
+pub broken_from : {seed : ℕ} {m : Semantics} {start begun : State} {schedule : List ℕ} {before now : Option (List ℕ)} → begun ≡ start → Broken seed m begun schedule before now → Broken seed m start schedule before now
+broken_from {seed = seed} {m = m} {schedule = schedule} {before = before} {now = now} e b = subst (λ x. Broken seed m x schedule before now) e b
 
 -- the run was played to the end of its schedule
-pub trace_closes : (task : Task) {system after : System} {inputs : Inputs} {schedule : List ℕ} {number : ℕ} {s : State} {before middle now : Option (List ℕ)} {page : List ℕ} {r : Status}
-    → after ≡ system → IsRunnable system → Fits (semantics_of system) (opening_state (semantics_of system) inputs) → AreOf system inputs schedule task → Progress (semantics_of system) (opening_state (semantics_of system) inputs) schedule [] number s before middle page
+pub trace_closes : {seed : ℕ} (task : Task) {system after : System} {inputs : Inputs} {schedule : List ℕ} {number : ℕ} {s : State} {before middle now : Option (List ℕ)} {page : List ℕ} {r : Status}
+    → after ≡ system → IsRunnable system → Fits (semantics_of system) (opening_state (semantics_of system) inputs) → AreOf seed system inputs schedule task → Progress seed (semantics_of system) (opening_state (semantics_of system) inputs) schedule [] number s before middle page
     → ClosesOr Done (page ++ lines_text (last_lines (semantics_of after) s)) (page ++ no_memory_line) middle now r → Writes (OfWorld task) r before now
 trace_closes task {s = s} {middle = middle} {now = now} {page = page} {r = r} still runnable fits of p (inl h) =
     closes_behind (OfWorld task) p.put p.told (trace_output runnable fits of p)
@@ -263,22 +263,22 @@ trace_closes task {s = s} {middle = middle} {now = now} {page = page} {r = r} st
 trace_closes task still runnable fits of p (inr h) = closes_behind (OfWorld task) p.put p.told (unfinished_output of p) h
 
 -- a line is that of no event
-pub bad_closes : (task : Task) {system : System} {inputs : Inputs} {schedule rest : List ℕ} {number : ℕ} {s : State} {before middle now : Option (List ℕ)} {page : List ℕ} {r : Status}
-    → AreOf system inputs schedule task → (rest ≡ [] → ⊥) → (most_events < number) ⊎ BeginsBadly (names_in (semantics_of system)) rest
-    → Progress (semantics_of system) (opening_state (semantics_of system) inputs) schedule rest number s before middle page → ClosesOr BadSchedule (page ++ bad_line number) (page ++ no_memory_line) middle now r → Writes (OfWorld task) r before now
+pub bad_closes : {seed : ℕ} (task : Task) {system : System} {inputs : Inputs} {schedule rest : List ℕ} {number : ℕ} {s : State} {before middle now : Option (List ℕ)} {page : List ℕ} {r : Status}
+    → AreOf seed system inputs schedule task → (rest ≡ [] → ⊥) → (most_events < number) ⊎ BeginsBadly (names_in (semantics_of system)) rest
+    → Progress seed (semantics_of system) (opening_state (semantics_of system) inputs) schedule rest number s before middle page → ClosesOr BadSchedule (page ++ bad_line number) (page ++ no_memory_line) middle now r → Writes (OfWorld task) r before now
 bad_closes task of more bad p (inl h) = closes_behind (OfWorld task) p.put p.told (bad_output of more bad p) h
 bad_closes task of more bad p (inr h) = closes_behind (OfWorld task) p.put p.told (unfinished_output of p) h
 
 -- an event is reached with too many cells
-pub full_closes : (task : Task) {system : System} {inputs : Inputs} {schedule rest : List ℕ} {number cells : ℕ} {s : State} {before middle now : Option (List ℕ)} {page : List ℕ} {r : Status}
-    → AreOf system inputs schedule task → IsNext (names_in (semantics_of system)) rest number → full_from < cells → cells ≡ cells_in s
-    → Progress (semantics_of system) (opening_state (semantics_of system) inputs) schedule rest number s before middle page → ClosesOr WorldFull (page ++ full_line cells) (page ++ no_memory_line) middle now r → Writes (OfWorld task) r before now
+pub full_closes : {seed : ℕ} (task : Task) {system : System} {inputs : Inputs} {schedule rest : List ℕ} {number cells : ℕ} {s : State} {before middle now : Option (List ℕ)} {page : List ℕ} {r : Status}
+    → AreOf seed system inputs schedule task → IsNext (names_in (semantics_of system)) rest number → full_from < cells → cells ≡ cells_in s
+    → Progress seed (semantics_of system) (opening_state (semantics_of system) inputs) schedule rest number s before middle page → ClosesOr WorldFull (page ++ full_line cells) (page ++ no_memory_line) middle now r → Writes (OfWorld task) r before now
 full_closes task of next many same p (inl h) = closes_behind (OfWorld task) p.put p.told (full_output of next many same p) h
 full_closes task of next many same p (inr h) = closes_behind (OfWorld task) p.put p.told (unfinished_output of p) h
 
 -- memory was refused
-pub unfinished_closes : (task : Task) {system : System} {inputs : Inputs} {schedule rest : List ℕ} {number : ℕ} {s : State} {before middle now : Option (List ℕ)} {page : List ℕ} {r : Status}
-    → AreOf system inputs schedule task → Progress (semantics_of system) (opening_state (semantics_of system) inputs) schedule rest number s before middle page
+pub unfinished_closes : {seed : ℕ} (task : Task) {system : System} {inputs : Inputs} {schedule rest : List ℕ} {number : ℕ} {s : State} {before middle now : Option (List ℕ)} {page : List ℕ} {r : Status}
+    → AreOf seed system inputs schedule task → Progress seed (semantics_of system) (opening_state (semantics_of system) inputs) schedule rest number s before middle page
     → Closes NoMemory (page ++ no_memory_line) middle now r → Writes (OfWorld task) r before now
 unfinished_closes task of p h = closes_behind (OfWorld task) p.put p.told (unfinished_output of p) h
 

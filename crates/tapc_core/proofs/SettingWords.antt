@@ -24,7 +24,7 @@ use Rattle.tapc_core.specs.SettingWords.{cut_at, number_in, setting_in}
 -- ---- cuts
 
 -- what stands before the first mark, and what stands behind it
-cut_joined : (mark : ℕ) (xs ys : List ℕ) → Lacks mark xs → cut_at mark (xs ++ mark ∷ ys) ≡ Some (xs, ys)
+pub cut_joined : (mark : ℕ) (xs ys : List ℕ) → Lacks mark xs → cut_at mark (xs ++ mark ∷ ys) ≡ Some (xs, ys)
 cut_joined mark [] ys h = let here : (mark == mark) ≡ true = (Decides-eqb mark mark).1 refl in rw here refl
 cut_joined mark (x ∷ xs) ys h = let rest = cut_joined mark xs ys h.1 in rw (ne_eqb x mark h.0, rest) refl
 

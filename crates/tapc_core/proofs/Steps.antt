@@ -17,10 +17,13 @@ use Rattle.run_text.specs.ScheduleText.{AreListed, HasLine, IsFirstLine, IsLineO
 use Rattle.run_text.specs.TraceText.{lines_text, names_in}
 use Rattle.tapc_core.specs.inner.Playing.{Passed, Progress}
 use Rattle.tapc_core.specs.Run.{AnswersInRoom}
+use Rattle.rand_pcg.specs.Lcg.{Lcg}
 use Rattle.guard_scheduler.specs.Cursor.{Cursor}
 use Rattle.exact_choice.specs.Choice.{AllChoose, ChoosesInTurn, opening_cursors}
+use Rattle.exact_choice.specs.Draws.{AllDraw, DrawsInOrder, opening_generators}
 use Rattle.exact_choice.specs.Moments.{moments}
 use Rattle.exact_choice.specs.Rejects.{AllReject, RejectsInOrder, opening_errors}
+use Rattle.exact_choice.proofs.Drawn.{all_draw_joined}
 use Rattle.exact_choice.proofs.Joined.{all_joined, moments_joined}
 use Rattle.exact_choice.proofs.RejectsJoined.{all_reject_joined}
 use Rattle.world_run.specs.declared.course.Course.{Course}
@@ -141,6 +144,17 @@ rejected_more m s t xs ys later h x more = (
   refl,
 )
 
+-- what is drawn in a run and what is drawn from its end on
+drawn_more : (seed : ℕ) (m : Semantics) (s t : State) (xs ys : List Label) (later : List Lcg) → state_after m s xs ≡ Some t → (x : DrawsInOrder seed m s xs) → AllDraw m (moments m t ys) x.generators later
+    → (y : DrawsInOrder seed m s (xs ++ ys)) × (y.generators ≡ later)
+drawn_more seed m s t xs ys later h x more = (
+  record {
+    generators = later;
+    all = subst (λ ms. AllDraw m ms (opening_generators seed m) later) (sym (moments_joined m s t xs ys h)) (all_draw_joined m (moments m s xs) (moments m t ys) (opening_generators seed m) x.generators later x.all more);
+  },
+  refl,
+)
+
 pub answered : (m : Semantics) (s t : State) (es : List Event) (labels : List Label) → Answers m s es labels t → state_after m s labels ≡ Some t
 answered m s t [] labels h = ap (state_after m s) h.0 ∙ ap Some (sym h.1)
 answered m s t (e ∷ es) labels h = ap (state_after m s) h.3 ∙ state_after_more m s h.2 t h.0 h.1 h.4.ran (answered m h.2 t es h.1 h.5)
@@ -151,15 +165,16 @@ each_and : {A : Type 0} (P : A → Type 0) (xs ys : List A) → Each P xs → Ea
 each_and P [] ys h k = k
 each_and P (x ∷ xs) ys h k = (h.0, each_and P xs ys h.1 k)
 
--- what is served goes on, and the cursors and the errors that wait are those of the course
-pub record Goes (semantics : Semantics) (start : State) (schedule rest : List ℕ) (number : ℕ) (course : Course) (before now : Option (List ℕ)) (page : List ℕ) : Type 0 where
-  pub progress : Progress semantics start schedule rest number course.state before now page
+-- what is served goes on, and the cursors, the errors that wait and the generators are those of the course
+pub record Goes (seed : ℕ) (semantics : Semantics) (start : State) (schedule rest : List ℕ) (number : ℕ) (course : Course) (before now : Option (List ℕ)) (page : List ℕ) : Type 0 where
+  pub progress : Progress seed semantics start schedule rest number course.state before now page
   pub stand : progress.run.chosen.cursors ≡ course.turnstiles
   pub wait : progress.run.rejected.errors ≡ course.errors
+  pub words : progress.run.drawn.generators ≡ course.generators
 
-pub goes_start : (semantics : Semantics) (course : Course) (schedule : List ℕ) (before : Option (List ℕ)) → course.turnstiles ≡ opening_cursors semantics → course.errors ≡ opening_errors semantics
-    → Goes semantics course.state schedule schedule 1 course before before []
-goes_start semantics course schedule before stand wait = record {
+pub goes_start : (seed : ℕ) (semantics : Semantics) (course : Course) (schedule : List ℕ) (before : Option (List ℕ)) → course.turnstiles ≡ opening_cursors semantics → course.errors ≡ opening_errors semantics → course.generators ≡ opening_generators seed semantics
+    → Goes seed semantics course.state schedule schedule 1 course before before []
+goes_start seed semantics course schedule before stand wait words = record {
   progress = record {
     events = [];
     listed = record { each = tt; few = lit≤ tt };
@@ -171,6 +186,7 @@ goes_start semantics course schedule before stand wait = record {
       in_room = (refl, refl);
       chosen = record { cursors = opening_cursors semantics; all = refl };
       rejected = record { errors = opening_errors semantics; all = refl };
+      drawn = record { generators = opening_generators seed semantics; all = refl };
     };
     sized = tt;
     put = [];
@@ -181,12 +197,13 @@ goes_start semantics course schedule before stand wait = record {
   };
   stand = sym stand;
   wait = sym wait;
+  words = sym words;
 }
 
-pub goes_more : {semantics : Semantics} {start : State} {schedule rest line tail : List ℕ} {number : ℕ} {old new : Course} {before now : Option (List ℕ)} {page after : List ℕ} {e : Event}
-    → number ≤ most_events → Goes semantics start schedule rest number old before now page → (rest ≡ [] → ⊥) → IsFirstLine rest line tail → IsLineOf (names_in semantics) line e
-    → cells_in old.state ≤ full_from → Served semantics e old new page after → Goes semantics start schedule tail (number + 1) new before now after
-goes_more {semantics = semantics} {number = number} {old = old} {new = new} {page = page} {after = after} {e = e} few g some first spells room served =
+pub goes_more : {seed : ℕ} {semantics : Semantics} {start : State} {schedule rest line tail : List ℕ} {number : ℕ} {old new : Course} {before now : Option (List ℕ)} {page after : List ℕ} {e : Event}
+    → number ≤ most_events → Goes seed semantics start schedule rest number old before now page → (rest ≡ [] → ⊥) → IsFirstLine rest line tail → IsLineOf (names_in semantics) line e
+    → cells_in old.state ≤ full_from → Served semantics e old new page after → Goes seed semantics start schedule tail (number + 1) new before now after
+goes_more {seed = seed} {semantics = semantics} {number = number} {old = old} {new = new} {page = page} {after = after} {e = e} few g some first spells room served =
     let p = g.progress in
     let s = old.state in
     let t = new.state in
@@ -195,6 +212,7 @@ goes_more {semantics = semantics} {number = number} {old = old} {new = new} {pag
     let wrote = did.wrote in
     let more = chosen_more semantics _ s p.labels served.labels new.turnstiles ran p.run.chosen (subst (λ cs. AllChoose semantics (moments semantics s served.labels) cs new.turnstiles) (sym g.stand) did.chosen) in
     let fewer = rejected_more semantics _ s p.labels served.labels new.errors ran p.run.rejected (subst (λ es. AllReject (moments semantics s served.labels) es new.errors) (sym g.wait) did.rejected) in
+    let further = drawn_more seed semantics _ s p.labels served.labels new.generators ran p.run.drawn (subst (λ gs. AllDraw semantics (moments semantics s served.labels) gs new.generators) (sym g.words) did.drawn) in
     record {
       progress = record {
         events = p.events ++ e ∷ [];
@@ -207,6 +225,7 @@ goes_more {semantics = semantics} {number = number} {old = old} {new = new} {pag
           in_room = in_room_more semantics _ s t p.events e p.labels served.labels p.run.in_room room served.serves;
           chosen = more.0;
           rejected = fewer.0;
+          drawn = further.0;
         };
         sized = each_and _ p.labels served.labels p.sized did.sized;
         put = p.put;
@@ -217,11 +236,12 @@ goes_more {semantics = semantics} {number = number} {old = old} {new = new} {pag
       };
       stand = more.1;
       wait = fewer.1;
+      words = further.1;
     }
 
 -- the front of the page was put
-pub goes_moved : {semantics : Semantics} {start : State} {schedule rest : List ℕ} {number : ℕ} {course : Course} {before middle now : Option (List ℕ)} {page left : List ℕ}
-    → Goes semantics start schedule rest number course before middle page → (put : List ℕ) → Appends middle now put → put ++ left ≡ page → Goes semantics start schedule rest number course before now left
+pub goes_moved : {seed : ℕ} {semantics : Semantics} {start : State} {schedule rest : List ℕ} {number : ℕ} {course : Course} {before middle now : Option (List ℕ)} {page left : List ℕ}
+    → Goes seed semantics start schedule rest number course before middle page → (put : List ℕ) → Appends middle now put → put ++ left ≡ page → Goes seed semantics start schedule rest number course before now left
 goes_moved {before = before} {middle = middle} {now = now} {left = left} g put told cut =
     let p = g.progress in
     record {
@@ -241,4 +261,5 @@ goes_moved {before = before} {middle = middle} {now = now} {left = left} g put t
       };
       stand = g.stand;
       wait = g.wait;
+      words = g.words;
     }

@@ -11,11 +11,9 @@ use Rattle.run_text.specs.TraceText.{names_in}
 use Rattle.run_text.proofs.ScheduleBoth.{never_both}
 use Rattle.tap_front.specs.Accepting.{Accepted, IsReadAs}
 use Rattle.tap_front.specs.Offences.{IsMisspelling, Offends}
-use Rattle.tap_front.specs.Runs.{CanRun, OffendsRun}
 use Rattle.tap_front.specs.declared.offence.Offence.{Offence}
-use Rattle.tap_front.specs.declared.offence.Offence.TheVariants.{Alike, Coded, Outside}
-use Rattle.tap_front.proofs.OneOffence.{never_refused}
-use Rattle.tap_front.proofs.RunTexts.{one_system_of_run, run_never_refused}
+use Rattle.tap_front.specs.declared.offence.Offence.TheVariants.{Alike, Coded}
+use Rattle.tap_front.proofs.OneOffence.{never_refused, one_system_of_text}
 use Rattle.tap_settings.specs.GivenInputs.{inputs_given}
 use Rattle.tap_base.specs.ListWords.{first}
 use Rattle.tap_settings.specs.Offences.{settings_offences}
@@ -61,14 +59,10 @@ is_sure sure r sb sn ob on no_memory store sink = λ kept still. inr refl
 not_refused : (text : Option (List ℕ)) (bytes : List ℕ) → HasSystem Accepted text → IsRefusal Offends text bytes → ⊥
 not_refused text bytes v h = never_refused.1 v.text v.system h.offence v.taken (told text v.text (λ t. Offends t h.offence) v.text_is h.first)
 
-not_kept : (text : Option (List ℕ)) (bytes : List ℕ) → HasSystem CanRun text → IsRefusal OffendsRun text bytes → ⊥
-not_kept text bytes v h = run_never_refused v.text v.system h.offence v.taken (told text v.text (λ t. OffendsRun t h.offence) v.text_is h.first)
-
 -- a text that is read as a tree has no offence that keeps it from that
 no_misspelling : (text : List ℕ) (tree : Ast) (o : Offence) → IsReadAs text tree → IsMisspelling text o → ⊥
 no_misspelling text tree (Coded r) h m = never_refused.0 text tree r h m
 no_misspelling text tree (Alike place first second) h m = m
-no_misspelling text tree Outside h m = m
 
 not_misspelled : (text : Option (List ℕ)) (bytes : List ℕ) → HasTree text → IsRefusal IsMisspelling text bytes → ⊥
 not_misspelled text bytes v h = no_misspelling v.text v.tree h.offence v.read (told text v.text (λ t. IsMisspelling t h.offence) v.text_is h.first)
@@ -80,9 +74,9 @@ not_accepted text system b h = never_refused.1 b.text system b.offence (told tex
 given_here : (task : Task) (text : List ℕ) (r : Played task) → task.text ≡ Some text → Gives text task.settings r.semantics r.inputs
 given_here task text r is = told task.text text (λ t. Gives t task.settings r.semantics r.inputs) is (where_told task.text task.settings r.semantics r.inputs r.gives)
 
-not_given : (task : Task) → HasOffence OffendsRun task.text → Played task → ⊥
+not_given : (task : Task) → HasOffence Offends task.text → Played task → ⊥
 not_given task b r =
-    let g = given_here task b.text r b.text_is in run_never_refused b.text g.system b.offence g.runs b.first
+    let g = given_here task b.text r b.text_is in never_refused.1 b.text g.system b.offence g.runs b.first
 
 not_read : (text : Option (List ℕ)) (tree : Ast) → HasOffence IsMisspelling text → IfSome text (λ t. IsReadAs t tree) → ⊥
 not_read text tree b h = no_misspelling b.text tree b.offence (told text b.text (λ t. IsReadAs t tree) b.text_is h) b.first
@@ -90,8 +84,8 @@ not_read text tree b h = no_misspelling b.text tree b.offence (told text b.text 
 -- ---- schedules
 
 -- what a text gives is what the system says that it can be run as
-given_same : (text : List ℕ) (settings : List Assignment) (system : System) (m : Semantics) (inputs : Inputs) → CanRun text system → Gives text settings m inputs → m ≡ semantics_of system
-given_same text settings system m inputs a g = g.says ∙ ap semantics_of (one_system_of_run text g.system system g.runs a)
+given_same : (text : List ℕ) (settings : List Assignment) (system : System) (m : Semantics) (inputs : Inputs) → Accepted text system → Gives text settings m inputs → m ≡ semantics_of system
+given_same text settings system m inputs a g = g.says ∙ ap semantics_of (one_system_of_text text g.system system g.runs a)
 
 -- a schedule of events has no bad line
 not_both : (task : Task) (bytes : List ℕ) → HasSchedule SpellsSchedule task → IsBadTrace task bytes → ⊥
@@ -121,12 +115,12 @@ not_both_set system settings inputs r given offends =
     let none = (given_or_refused system settings).1 (subst IsSome (sym given) refl) in none-some r (sym (ap first none) ∙ offends)
 
 -- where a text can be run and the settings give its system inputs, neither is refused
-not_world_refused : (task : Task) (bytes : List ℕ) (v : HasSystem CanRun task.text) (inputs : Inputs) → inputs_given v.system task.settings ≡ Some inputs → IsRefusal OffendsRun task.text bytes ⊎ IsMisset task bytes → ⊥
-not_world_refused task bytes v inputs given (inl h) = not_kept task.text bytes v h
+not_world_refused : (task : Task) (bytes : List ℕ) (v : HasSystem Accepted task.text) (inputs : Inputs) → inputs_given v.system task.settings ≡ Some inputs → IsRefusal Offends task.text bytes ⊎ IsMisset task bytes → ⊥
+not_world_refused task bytes v inputs given (inl h) = not_refused task.text bytes v h
 not_world_refused task bytes v inputs given (inr h) =
     let o = h.offence in
-    let held = told task.text v.text (λ t. CanRun t o.system) v.text_is (held_told task.text o.system o.holds) in
-    let same = one_system_of_run v.text v.system o.system v.taken held in
+    let held = told task.text v.text (λ t. Accepted t o.system) v.text_is (held_told task.text o.system o.holds) in
+    let same = one_system_of_text v.text v.system o.system v.taken held in
     not_both_set v.system task.settings inputs h.refusal given (ap (λ s. first (settings_offences s task.settings)) same ∙ o.is)
 
 -- and where they have an offence nothing is played
@@ -134,7 +128,7 @@ not_played : (task : Task) → HasMisset task → Played task → ⊥
 not_played task b r =
     let t = b.text in
     let g = given_here task t.text r t.text_is in
-    let same = one_system_of_run t.text t.system g.system t.taken g.runs in
+    let same = one_system_of_text t.text t.system g.system t.taken g.runs in
     not_both_set t.system task.settings r.inputs b.refusal (ap (λ s. inputs_given s task.settings) same ∙ g.given) b.is
 
 -- ---- commands
@@ -207,7 +201,7 @@ outcome : (asked : Option Asked) (contents : Contents) (sure r : Status) (bytes 
 outcome None contents sure r bytes s h = no_command_outcome sure r bytes s h
 outcome (Some (check system)) contents sure r bytes s h = check_outcome (contents system) sure r bytes s h
 outcome (Some (print system)) contents sure r bytes s h = print_outcome (contents system) sure r bytes s h
-outcome (Some (world system schedule settings)) contents sure r bytes s h = world_outcome (task_of system schedule settings contents) sure r bytes s h
+outcome (Some (world system schedule seed settings)) contents sure r bytes s h = world_outcome (task_of system schedule seed settings contents) sure r bytes s h
 
 pub sure_status : (asked : Option Asked) (contents : Contents) (r : Status) (before now : Option (List ℕ)) (sb sn ob on : ℕ) → Writes ((command_for asked).writes contents) r before now
     → HasStoreCause r sb sn → HasSinkCause r ob on → (sure : Status) → (command_for asked).is_sure contents sure → IsSure sure sb sn ob on r

@@ -4,6 +4,7 @@ pub mod Laws
 pub mod Lines
 pub mod Reading
 pub mod Run
+pub mod SeedWords
 pub mod SettingWords
 pub mod Status
 pub mod Words

@@ -7,19 +7,18 @@ ghost use Rattle.run_text.specs.Names.{AreNames};
 ghost use Rattle.run_text.specs.TraceText.{names_in};
 ghost use Rattle.tap_front.specs.Accepting.{Accepted, IsReadAs};
 ghost use Rattle.tap_front.specs.Offences.{IsMisspelling, Offends};
-ghost use Rattle.tap_front.specs.Runs.{OffendsRun};
 ghost use Rattle.link_trait.specs.Outside.{IsTold};
 ghost use Rattle.tapc_core.specs.Reading.{LeavesText};
 ghost use Rattle.tapc_core.specs.Run.{HoldsSystem};
 ghost use Rattle.tapc_core.specs.inner.FileFaults.{HasFileCause, WasRead};
-ghost use Rattle.abstract_run.specs.Runnable.{IsRunnable};
+ghost use Rattle.exact_choice.specs.Runnable.{IsRunnable};
 ghost use Rattle.world_run.specs.Layouts.{HasLayout};
 
 use crate::reading::{ReadError, Reading, read_text};
 use link_trait::Store;
 use std::alloc::Global;
 use tap_base::{Ast, System};
-use tap_front::{Offence, TOO_LONG, TextFault, accept, accept_to_run, tree_of};
+use tap_front::{Offence, TOO_LONG, TextFault, accept, tree_of};
 use tap_parser::ParseFault;
 use width_check::Checked;
 
@@ -77,14 +76,14 @@ pub fn read_system<S: Store>(alloc: Global, name: &str, store: &mut S) -> Result
     }
 }
 
-/// Reads the text of a system, and the system that it can be run as. A text that is too long is refused L0 at
-/// 1:1, whatever it holds.
+/// Reads the text of a system that is to be run, and the system that it is accepted as. A text that is too
+/// long is refused L0 at 1:1, whatever it holds.
 pub fn read_to_run<S: Store>(alloc: Global, name: &str, store: &mut S) -> Result<System, FileFault>
     ensures runnable { IfOk result IsRunnable }
     ensures wire { IfOk result (λ s. HasLayout (wire_of s)) }
     ensures apart { IfOk result (λ s. AreNames (names_in (semantics_of s))) }
     ensures holds { IfOk result (λ s. HoldsSystem (S.contents store.old name.now) s) }
-    ensures refused { (o : Offence) → result ≡ Err (FileFault.Refused o) → IfSome (S.contents store.old name.now) (λ text. OffendsRun text o) }
+    ensures refused { (o : Offence) → result ≡ Err (FileFault.Refused o) → IfSome (S.contents store.old name.now) (λ text. Offends text o) }
     ensures left { WasRead result → LeavesText (S.contents store.old name.now) (S.left store.new) }
     ensures found { WasRead result → IsTold (S.left store.old) → IsTold (S.contents store.old name.now) }
     ensures told { OnOk result (IsTold (S.left store.old) → IsTold (S.left store.new)) }
@@ -92,7 +91,7 @@ pub fn read_to_run<S: Store>(alloc: Global, name: &str, store: &mut S) -> Result
     ensures cause { HasFileCause (S.faults store.old) (S.faults store.new) result }
 {
     match read_text(alloc, store, name)? {
-        Reading::Whole(text) => Ok(accept_to_run(alloc, text.as_slice())?.into_system()),
+        Reading::Whole(text) => Ok(accept(alloc, text.as_slice())?.into_system()),
         Reading::TooLong => Err(FileFault::Refused(Offence::Coded(TOO_LONG))),
     }
 }

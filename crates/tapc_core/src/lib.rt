@@ -8,6 +8,7 @@ mod lines;
 mod play;
 mod program;
 mod reading;
+mod seeds;
 mod settings;
 mod start;
 mod status;

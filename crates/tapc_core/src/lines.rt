@@ -3,6 +3,7 @@
 ghost use Rattle.std.specs.Prelude.{◌≡◌, ◌≤◌, ◌<◌, ◌^◌, ◌⊎◌, [], length, IfOk, MatchOption, OnSome};
 ghost use Rattle.tap_exec.specs.Semantics.{semantics_of};
 ghost use Rattle.exact_choice.specs.Choice.{opening_cursors};
+ghost use Rattle.exact_choice.specs.Draws.{opening_generators};
 ghost use Rattle.exact_choice.specs.Rejects.{opening_errors};
 ghost use Rattle.run_text.specs.Names.{AreNames};
 ghost use Rattle.run_text.specs.ScheduleText.{IsLineOf, IsOfNoEvent, most_events};
@@ -84,11 +85,12 @@ pub fn play_lines<O: Sink>(
 ) -> Result<(), Stop>
     requires goes_on { GoesOn world.old }
     requires opened { world.old.course.turnstiles ≡ opening_cursors (semantics_of world.old.system) }
+    requires seeded { world.old.course.generators ≡ opening_generators world.old.seed (semantics_of world.old.system) }
     requires no_errors { world.old.course.errors ≡ opening_errors (semantics_of world.old.system) }
     requires names { AreNamesOf (semantics_of world.old.system) names.now }
     requires apart { AreNames (names_in (semantics_of world.old.system)) }
     requires empty { page.old.items ≡ [] }
-    ensures plays { Plays (semantics_of world.old.system) world.old.course.state schedule.now (O.written out.old) result world.new.course.state (O.written out.new) page.new.items }
+    ensures plays { Plays world.old.seed (semantics_of world.old.system) world.old.course.state schedule.now (O.written out.old) result world.new.course.state (O.written out.new) page.new.items }
     ensures system { world.new.system ≡ world.old.system }
     ensures cause { HasPlayCause (O.faults out.old) (O.faults out.new) result }
 {

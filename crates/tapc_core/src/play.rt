@@ -6,6 +6,7 @@ ghost use Rattle.abstract_run.specs.Fits.{InputsFit};
 ghost use Rattle.abstract_run.specs.Opening.{opening_state};
 ghost use Rattle.tap_exec.specs.Semantics.{semantics_of};
 ghost use Rattle.exact_choice.specs.Choice.{opening_cursors};
+ghost use Rattle.exact_choice.specs.Draws.{opening_generators};
 ghost use Rattle.exact_choice.specs.Rejects.{opening_errors};
 ghost use Rattle.run_text.specs.Names.{AreNames};
 ghost use Rattle.run_text.specs.TraceText.{last_lines, lines_text, names_in};
@@ -16,7 +17,7 @@ ghost use Rattle.tapc_core.specs.Written.{Writes};
 ghost use Rattle.tapc_core.specs.commands.World.{IsPlayed, OfWorld};
 ghost use Rattle.tapc_core.specs.inner.Closing.{ClosesOr};
 ghost use Rattle.tapc_core.specs.inner.Playing.{AreOf};
-ghost use Rattle.abstract_run.specs.Runnable.{IsRunnable};
+ghost use Rattle.exact_choice.specs.Runnable.{IsRunnable};
 ghost use Rattle.world_run.specs.Layouts.{HasLayout};
 ghost use Rattle.world_run.specs.Names.{AreNamesOf};
 ghost use Rattle.world_run.specs.Served.{GoesOn};
@@ -33,11 +34,12 @@ use world_run::World;
 /// The line that is written where memory was refused.
 pub const NO_MEMORY: &[u8] = b"no memory\n";
 
-/// Plays a system with inputs on a schedule, writes the trace, and answers how that ended.
+/// Plays a system with inputs and a seed on a schedule, writes the trace, and answers how that ended.
 pub fn play<O: Sink>(
     alloc: Global,
     system: System,
     inputs: &Inputs,
+    seed: u64,
     schedule: &[u8],
     out: &mut O,
 ) -> Status
@@ -45,14 +47,14 @@ pub fn play<O: Sink>(
     requires wire { HasLayout (wire_of system) }
     requires fit { InputsFit (semantics_of system) inputs.now }
     requires apart { AreNames (names_in (semantics_of system)) }
-    ensures writes { (task : Task) → AreOf system inputs.now schedule.now task → Writes (OfWorld task) result (O.written out.old) (O.written out.new) }
+    ensures writes { (task : Task) → AreOf seed system inputs.now schedule.now task → Writes (OfWorld task) result (O.written out.old) (O.written out.new) }
     ensures answer { IsPlayed result }
     ensures cause { HasSinkCause result (O.faults out.old) (O.faults out.new) }
 {
     let Ok(names) = names_of(alloc, &system) else {
         return close(NO_MEMORY, out, Status::NoMemory);
     };
-    match World::new(alloc, system, inputs) {
+    match World::new(alloc, system, inputs, seed) {
         Ok(mut world) => play_world(alloc, &mut world, &names, schedule, out),
         Err(NoMemory) => close(NO_MEMORY, out, Status::NoMemory),
     }
@@ -68,10 +70,11 @@ fn play_world<O: Sink>(
 ) -> Status
     requires goes_on { GoesOn world.old }
     requires opened { world.old.course.turnstiles ≡ opening_cursors (semantics_of world.old.system) }
+    requires seeded { world.old.course.generators ≡ opening_generators world.old.seed (semantics_of world.old.system) }
     requires no_errors { world.old.course.errors ≡ opening_errors (semantics_of world.old.system) }
     requires names { AreNamesOf (semantics_of world.old.system) names.now }
     requires apart { AreNames (names_in (semantics_of world.old.system)) }
-    ensures writes { (task : Task) (inputs : Inputs) → world.old.course.state ≡ opening_state (semantics_of world.old.system) inputs → AreOf world.old.system inputs schedule.now task → Writes (OfWorld task) result (O.written out.old) (O.written out.new) }
+    ensures writes { (task : Task) (inputs : Inputs) → world.old.course.state ≡ opening_state (semantics_of world.old.system) inputs → AreOf world.old.seed world.old.system inputs schedule.now task → Writes (OfWorld task) result (O.written out.old) (O.written out.new) }
     ensures answer { IsPlayed result }
     ensures cause { HasSinkCause result (O.faults out.old) (O.faults out.new) }
 {

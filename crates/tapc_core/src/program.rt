@@ -43,7 +43,7 @@ pub fn run<S: Store, O: Sink, L: Link, C: Clock>(
     clock: &mut C,
 ) -> Status
     // World puts the trace of a run that answers the whole schedule.
-    ensures done { (system schedule : List ℕ) (settings : List Assignment) → asked.command_of words.now ≡ Some (asked.world system schedule settings) → result ≡ Status.Done → Puts (IsTrace (task_of system schedule settings (S.contents store.old))) (O.written out.old) (O.written out.new) }
+    ensures done { (system schedule : List ℕ) (seed : ℕ) (settings : List Assignment) → asked.command_of words.now ≡ Some (asked.world system schedule seed settings) → result ≡ Status.Done → Puts (IsTrace (task_of system schedule seed settings (S.contents store.old))) (O.written out.old) (O.written out.new) }
     // Each command answers only what its work can give,
     ensures answers { (command_for (asked.command_of words.now)).answers result }
     // and writes what belongs to the status, or where a put fails a front of what belongs to some status.
@@ -78,9 +78,10 @@ fn obey<S: Store, O: Sink>(alloc: Global, words: &[Text], store: &mut S, out: &m
             Command::World {
                 system,
                 schedule,
+                seed,
                 settings,
             },
-        ) => world(alloc, system, schedule, settings, store, out),
+        ) => world(alloc, system, schedule, seed, settings, store, out),
         None => close(usage_line(), out, Status::Usage),
     }
 }
@@ -129,19 +130,21 @@ fn print_tree<S: Store, O: Sink>(alloc: Global, system: &str, store: &mut S, out
     }
 }
 
-/// Runs the world of a system on a schedule, whose files have these names, with the settings among words.
+/// Runs the world of a system on a schedule, whose files have these names, with a seed and the settings of
+/// inputs among words.
 fn world<S: Store, O: Sink>(
     alloc: Global,
     system: &str,
     schedule: &str,
+    seed: u64,
     settings: &[Text],
     store: &mut S,
     out: &mut O,
 ) -> Status
-    ensures writes { Writes ((world_command system.now schedule.now (settings_among settings.now)).writes (S.contents store.old)) result (O.written out.old) (O.written out.new) }
-    ensures answers { (world_command system.now schedule.now (settings_among settings.now)).answers result }
-    ensures found { IsTold (S.left store.old) → AreFound ((world_command system.now schedule.now (settings_among settings.now)).reads result) (S.contents store.old) }
-    ensures leaves { (world_command system.now schedule.now (settings_among settings.now)).leaves (S.contents store.old) result (S.left store.new) }
+    ensures writes { Writes ((world_command system.now schedule.now seed (settings_among settings.now)).writes (S.contents store.old)) result (O.written out.old) (O.written out.new) }
+    ensures answers { (world_command system.now schedule.now seed (settings_among settings.now)).answers result }
+    ensures found { IsTold (S.left store.old) → AreFound ((world_command system.now schedule.now seed (settings_among settings.now)).reads result) (S.contents store.old) }
+    ensures leaves { (world_command system.now schedule.now seed (settings_among settings.now)).leaves (S.contents store.old) result (S.left store.new) }
     ensures store_cause { HasStoreCause result (S.faults store.old) (S.faults store.new) }
     ensures sink_cause { HasSinkCause result (O.faults out.old) (O.faults out.new) }
 {
@@ -152,7 +155,7 @@ fn world<S: Store, O: Sink>(
                 inputs,
                 schedule,
             },
-        ) => play(alloc, system, &inputs, schedule.as_slice(), out),
+        ) => play(alloc, system, &inputs, seed, schedule.as_slice(), out),
         Err(StartFault::Misset(refusal)) => close_misset(alloc, &refusal, out),
         Err(StartFault::File(fault)) => give_up(alloc, fault, out),
     }

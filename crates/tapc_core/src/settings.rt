@@ -1,27 +1,35 @@
 //! The words that are settings.
 
-ghost use Rattle.std.specs.Prelude.{◌≡◌, ◌++◌, IfOk, OnOk, is_some};
-ghost use Rattle.tap_base.specs.Option.{each};
+ghost use Rattle.std.specs.Prelude.{◌≡◌, ◌++◌, IfOk, OnOk};
+ghost use Rattle.std.specs.List.{list_all};
 ghost use Rattle.tap_settings.specs.SettingText.{assignments_of};
 ghost use Rattle.tapc_core.specs.SettingWords.{listed, setting_in, settings_among};
+ghost use Rattle.tapc_core.specs.Words.{is_setting};
 
+use crate::seeds::seed_of;
 use std::alloc::Global;
 use tap_base::{List, NoMemory, Text};
 use tap_settings::{Setting, setting_of};
 
-/// Whether all words are settings.
+/// Whether all words are settings: of an input, or of the seed.
 pub fn are_settings(words: &[Text]) -> bool
-    ensures { result ≡ is_some (each setting_in words.now) }
+    ensures { result ≡ list_all is_setting words.now }
 {
     for word in words {
-        if setting_of(word.as_str()).is_none() {
+        if !is_setting(word.as_str()) {
             return false;
         }
     }
     true
 }
 
-/// The settings among words.
+fn is_setting(word: &str) -> bool
+    ensures { result ≡ is_setting word.now }
+{
+    setting_of(word).is_some() || seed_of(word).is_some()
+}
+
+/// The settings of inputs among words.
 pub fn settings_among<'a>(alloc: Global, words: &'a [Text]) -> Result<List<Setting<'a>>, NoMemory>
     ensures { IfOk result (λ settings. assignments_of settings ≡ settings_among words.now) }
 {

@@ -1,12 +1,12 @@
 //! What a world begins with: a system, its inputs, and a schedule.
 
-ghost use Rattle.std.specs.Prelude.{◌≡◌, List, Err, IfOk, IfSome, OnOk};
+ghost use Rattle.std.specs.Prelude.{◌≡◌, ℕ, List, Err, IfOk, IfSome, OnOk};
 ghost use Rattle.tap_base.specs.Wires.{wire_of};
 ghost use Rattle.abstract_run.specs.Fits.{InputsFit};
 ghost use Rattle.tap_exec.specs.Semantics.{semantics_of};
 ghost use Rattle.run_text.specs.Names.{AreNames};
 ghost use Rattle.run_text.specs.TraceText.{names_in};
-ghost use Rattle.tap_front.specs.Runs.{OffendsRun};
+ghost use Rattle.tap_front.specs.Offences.{Offends};
 ghost use Rattle.tap_settings.specs.GivenInputs.{inputs_given};
 ghost use Rattle.tap_settings.specs.Offences.{settings_offences};
 ghost use Rattle.tap_settings.specs.Refusals.{Judges};
@@ -16,7 +16,7 @@ ghost use Rattle.tapc_core.specs.SettingWords.{settings_among};
 ghost use Rattle.tapc_core.specs.commands.World.{Missets, task_of};
 ghost use Rattle.tapc_core.specs.inner.Playing.{AreOf};
 ghost use Rattle.tapc_core.specs.inner.StartFaults.{HasStartCause, WasRefused};
-ghost use Rattle.abstract_run.specs.Runnable.{IsRunnable};
+ghost use Rattle.exact_choice.specs.Runnable.{IsRunnable};
 ghost use Rattle.world_run.specs.Layouts.{HasLayout};
 
 use crate::files::{FileFault, read_to_run};
@@ -82,9 +82,9 @@ pub fn begin<S: Store>(
     ensures wire { IfOk result (λ r. HasLayout (wire_of r.system)) }
     ensures fit { IfOk result (λ r. InputsFit (semantics_of r.system) r.inputs) }
     ensures apart { IfOk result (λ r. AreNames (names_in (semantics_of r.system))) }
-    ensures read { IfOk result (λ r. AreOf r.system r.inputs r.schedule (task_of system.now schedule.now (settings_among settings.now) (S.contents store.old))) }
-    ensures refused { (o : Offence) → result ≡ Err (StartFault.File (FileFault.Refused o)) → IfSome (S.contents store.old system.now) (λ text. OffendsRun text o) }
-    ensures misset { (r : SettingRefusal) → result ≡ Err (StartFault.Misset r) → Missets (task_of system.now schedule.now (settings_among settings.now) (S.contents store.old)) r }
+    ensures read { (seed : ℕ) → IfOk result (λ r. AreOf seed r.system r.inputs r.schedule (task_of system.now schedule.now seed (settings_among settings.now) (S.contents store.old))) }
+    ensures refused { (o : Offence) → result ≡ Err (StartFault.File (FileFault.Refused o)) → IfSome (S.contents store.old system.now) (λ text. Offends text o) }
+    ensures misset { (seed : ℕ) (r : SettingRefusal) → result ≡ Err (StartFault.Misset r) → Missets (task_of system.now schedule.now seed (settings_among settings.now) (S.contents store.old)) r }
     ensures left { WasRefused result → LeavesText (S.contents store.old system.now) (S.left store.new) }
     ensures found { WasRefused result → IsTold (S.left store.old) → IsTold (S.contents store.old system.now) }
     ensures found_both { OnOk result (IsTold (S.left store.old) → IsTold (S.contents store.old system.now) × IsTold (S.contents store.old schedule.now)) }

@@ -4,6 +4,7 @@ ghost use Rattle.std.specs.Prelude.{◌≡◌, [], ◌∷◌};
 ghost use Rattle.std.specs.Option.{option_map};
 ghost use Rattle.tapc_core.specs.Words.{asked_by, command_of, is_file, usage_line};
 
+use crate::seeds::seed_among;
 use crate::settings::are_settings;
 use tap_base::Text;
 
@@ -26,7 +27,9 @@ pub enum Command<'a> {
         system: &'a str,
         /// The name of the schedule's file.
         schedule: &'a str,
-        /// The words of the settings.
+        /// The seed of the draws.
+        seed: u64,
+        /// The words of the settings. That of the seed is among them.
         settings: &'a [Text],
     },
 }
@@ -59,7 +62,8 @@ fn text_command_of<'a>(word: &'a Text, system: &'a Text) -> Option<Command<'a>>
     None
 }
 
-/// The command `world` on the files of a system and a schedule, with settings.
+/// The command `world` on the files of a system and a schedule, with settings. At most one of them gives
+/// the seed, which is 0 where none does.
 fn world_of<'a>(
     word: &'a Text,
     system: &'a Text,
@@ -68,14 +72,19 @@ fn world_of<'a>(
 ) -> Option<Command<'a>>
     ensures { option_map asked_by result ≡ command_of (word.now ∷ system.now ∷ schedule.now ∷ settings.now) }
 {
-    if word.as_str() == "world" && is_file(system) && is_file(schedule) && are_settings(settings) {
-        return Some(Command::World {
-            system: system.as_str(),
-            schedule: schedule.as_str(),
-            settings,
-        });
+    if word.as_str() != "world" || !is_file(system) || !is_file(schedule) {
+        return None;
     }
-    None
+    let seed = seed_among(settings)?;
+    if !are_settings(settings) {
+        return None;
+    }
+    Some(Command::World {
+        system: system.as_str(),
+        schedule: schedule.as_str(),
+        seed,
+        settings,
+    })
 }
 
 /// Whether a word names a file.

@@ -4,7 +4,7 @@ use Rattle.std.specs.Option.{option_map}
 use Rattle.std.proofs.lemmas.Option.{option_and_then_some, cond_some}
 use Rattle.abstract_run.specs.declared.label.Label.{Label}
 use Rattle.abstract_run.specs.declared.label.Label.TheVariants as label
-use Rattle.tap_exec.specs.declared.running.Running.{Running}
+use Rattle.tap_exec.specs.Running.{Running}
 use Rattle.tap_exec.specs.declared.running.Outgoing.{Outgoing}
 use Rattle.abstract_run.specs.declared.state.State.{State}
 use Rattle.tap_exec.specs.declared.running.TimerState.{TimerState}
@@ -15,7 +15,8 @@ use Rattle.abstract_run.specs.Channels.{appended, on_flight, rejected_at, where_
 use Rattle.abstract_run.specs.Enabled.{is_ready}
 use Rattle.tap_exec.specs.Semantics.{Semantics, ActionSemantics, action_at}
 use Rattle.tap_base.specs.Option.{◌>>=◌, is_yes, provided}
-use Rattle.abstract_run.specs.Step.{After, acted, channel_changed, cut_off, fallen, flight_changed, is_empty, is_flooded, is_idle, is_live, is_zero, mark_raised, put_down, received, rejected, settled_step, silent, step, step_by, stopped, ticked, time_after, timer_after, timers_at}
+use Rattle.tap_exec.specs.Execution.{is_empty}
+use Rattle.abstract_run.specs.Step.{After, acted, channel_changed, cut_off, fallen, flight_changed, is_flooded, is_idle, is_live, is_zero, mark_raised, put_down, received, rejected, settled_step, silent, step, step_by, stopped, ticked, time_after, timer_after, timers_at}
 use Rattle.abstract_run.proofs.Acted.{acted_by}
 use Rattle.abstract_run.proofs.Begins.{start}
 use Rattle.abstract_run.proofs.Kept.{fallen_by}

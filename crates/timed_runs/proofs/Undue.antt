@@ -11,7 +11,7 @@ use Rattle.tap_base.specs.declared.tree.Stmt.TheVariants as stmt
 use Rattle.tap_base.specs.declared.tree.Target.{Target}
 use Rattle.tap_base.specs.declared.wire.WireField.{WireField}
 use Rattle.tap_base.proofs.ListFacts.{each_at, each_map, each_of}
-use Rattle.tap_exec.specs.declared.running.Running.{Running}
+use Rattle.tap_exec.specs.Running.{Running}
 use Rattle.tap_exec.specs.declared.running.TimerState.{TimerState}
 use Rattle.tap_exec.specs.declared.running.TimerState.TheVariants as timer
 use Rattle.tap_exec.specs.Execution.{Alternative, Doing, alternative, assigned, chosen, do_all, exec, exec_all, execution, one_runs, open_from, place_in, round, rounds, sent, started, takes, value_in, with_timer, writes}

@@ -4,7 +4,7 @@ use Rattle.tap_base.specs.declared.system.Inputs.{Inputs}
 use Rattle.tap_base.specs.declared.system.System.{System}
 use Rattle.abstract_run.specs.declared.label.Label.{Label}
 use Rattle.abstract_run.specs.declared.label.Label.TheVariants as label
-use Rattle.tap_exec.specs.declared.running.Running.{Running}
+use Rattle.tap_exec.specs.Running.{Running}
 use Rattle.abstract_run.specs.declared.state.State.{State}
 use Rattle.tap_exec.specs.declared.running.TimerState.{TimerState}
 use Rattle.tap_exec.specs.declared.running.TimerState.TheVariants as timer

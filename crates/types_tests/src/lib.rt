@@ -1,4 +1,4 @@
-//! Tests of the names, kinds and limits of texts: the first offence of each, and which texts are accepted, and can be run.
+//! Tests of the names, kinds and limits of texts: the first offence of each, and which texts are accepted.
 //! Each row is a text that was worked by hand.
 #![tactic(auto)]
 
@@ -8,7 +8,5 @@ mod accepted;
 mod earlier;
 #[cfg(test)]
 mod offences;
-#[cfg(test)]
-mod running;
 #[cfg(test)]
 mod uses;

@@ -70,16 +70,16 @@ pub with_errors : (m : Semantics) (old new : Course) (l : Label) (errors : List 
 with_errors m old new l errors before after d = record { sends = d.sends; ran = d.ran; fits = d.fits; cells = d.cells; few = d.few; wrote = d.wrote }
 
 pub arrival : (m : Semantics) (old new : Course) (q p : ℕ) (bad : Bool) (before after : List ℕ) → q < length m.processes → p < length m.processes → bad ≡ arrives_bad old.state q p
-    → DidOne m (label.Arrive q p) old new before after → new.turnstiles ≡ old.turnstiles → new.errors ≡ (if bad then one_more q p old.errors else old.errors)
+    → DidOne m (label.Arrive q p) old new before after → new.turnstiles ≡ old.turnstiles → new.generators ≡ old.generators → new.errors ≡ (if bad then one_more q p old.errors else old.errors)
     → Did m (or_void m old.state (label.Arrive q p) ∷ []) old new before after
-arrival m old new q p bad before after peer there is d cursors errors =
+arrival m old new q p bad before after peer there is d cursors generators errors =
     done_or_void m old new (label.Arrive q p) new.state d.sends before after d.ran
-    (did m old new (label.Arrive q p) before after d cursors (arrived_rejects old.state q p old.errors new.errors bad is errors) (peer, there))
+    (did m old new (label.Arrive q p) before after d cursors generators (arrived_rejects old.state q p old.errors new.errors bad is errors) (peer, there))
 
 pub arrival_course : (m : Semantics) (old new : Course) (q p : ℕ) (bad : Bool) (before after : List ℕ) → IsCourse m old → bad ≡ arrives_bad old.state q p
-    → DidOne m (label.Arrive q p) old new before after → new.turnstiles ≡ old.turnstiles → new.errors ≡ (if bad then one_more q p old.errors else old.errors) → IsCourse m new
-arrival_course m old new q p bad before after whole is d cursors errors =
-    course_after m old new (label.Arrive q p) before after whole d cursors (arrived_rejects old.state q p old.errors new.errors bad is errors)
+    → DidOne m (label.Arrive q p) old new before after → new.turnstiles ≡ old.turnstiles → new.generators ≡ old.generators → new.errors ≡ (if bad then one_more q p old.errors else old.errors) → IsCourse m new
+arrival_course m old new q p bad before after whole is d cursors generators errors =
+    course_after m old new (label.Arrive q p) before after whole d cursors generators (arrived_rejects old.state q p old.errors new.errors bad is errors)
 
 -- ---- forged datagrams, and cuts
 

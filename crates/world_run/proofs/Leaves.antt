@@ -16,7 +16,8 @@ use Rattle.abstract_run.specs.Channels.{error_waits, rejected_at}
 use Rattle.abstract_run.specs.Enabled.{any_enabled, is_enabled, is_ready}
 use Rattle.abstract_run.specs.Progress.{IsPossible}
 use Rattle.abstract_run.specs.Run.{state_after}
-use Rattle.abstract_run.specs.Step.{After, any_pressing, channel_changed, cut_off, fallen, falling_after, is_empty, is_flooded, is_idle, is_live, is_pressing, is_receive, is_zero, put_down, rejected, settled_step, silent, step, step_by, stopped, ticked}
+use Rattle.tap_exec.specs.Execution.{is_empty}
+use Rattle.abstract_run.specs.Step.{After, any_pressing, channel_changed, cut_off, fallen, falling_after, is_flooded, is_idle, is_live, is_pressing, is_receive, is_zero, put_down, rejected, settled_step, silent, step, step_by, stopped, ticked}
 use Rattle.abstract_run.proofs.Acted.{acted_by}
 use Rattle.abstract_run.proofs.Kept.{fallen_by}
 use Rattle.abstract_run.proofs.Mild.{Moved, moved_by}

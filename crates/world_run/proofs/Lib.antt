@@ -1,4 +1,5 @@
 pub mod Cursors
+pub mod DrawnActs
 pub mod Events
 pub mod LaidOut
 pub mod Leaves

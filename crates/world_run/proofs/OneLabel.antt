@@ -6,6 +6,7 @@ use Rattle.tap_exec.specs.declared.running.Outgoing.{Outgoing}
 use Rattle.tap_exec.specs.Semantics.{Semantics}
 use Rattle.byte_meaning.specs.Messages.{AreValuesOf, IsFitSend}
 use Rattle.guard_scheduler.specs.Cursor.{Cursor}
+use Rattle.rand_pcg.specs.Lcg.{Lcg}
 use Rattle.abstract_run.specs.declared.label.Label.{Label}
 use Rattle.abstract_run.specs.declared.label.Label.TheVariants as label
 use Rattle.abstract_run.specs.declared.state.State.{State}
@@ -15,17 +16,19 @@ use Rattle.abstract_run.specs.Kept.{AreFitSends}
 use Rattle.abstract_run.specs.Run.{state_after}
 use Rattle.abstract_run.specs.Step.{After, step}
 use Rattle.exact_choice.specs.Choice.{AllChoose, Chooses}
+use Rattle.exact_choice.specs.Draws.{AllDraw, Draws}
 use Rattle.exact_choice.specs.Moments.{moments}
 use Rattle.exact_choice.specs.Rejects.{AllReject, Rejects}
 use Rattle.exact_choice.proofs.Cursors.{cursors_kept}
+use Rattle.exact_choice.proofs.Drawn.{all_draw_joined, generators_kept}
 use Rattle.exact_choice.proofs.Joined.{all_joined, moments_joined}
 use Rattle.exact_choice.proofs.RejectsJoined.{all_reject_joined}
 use Rattle.exact_choice.proofs.RejectsKept.{errors_kept}
 use Rattle.run_text.specs.Sized.{IsSized}
-use Rattle.run_text.specs.TraceText.{label_line, names_in, went_out}
+use Rattle.run_text.specs.TraceText.{went_out}
 use Rattle.world_run.specs.declared.course.Course.{Course}
 use Rattle.world_run.specs.Served.{Did, IsCourse}
-use Rattle.world_run.specs.inner.Serving.{DidOne, IsPlain, Wrote, most_more, sends_text}
+use Rattle.world_run.specs.inner.Serving.{DidOne, IsPlain, WroteDone, most_more}
 use Rattle.world_run.proofs.Lines.{none_wrote, one_wrote, wrote_more}
 
 -- ---- what a label sends
@@ -118,18 +121,16 @@ taken_there semantics l s t sends cells counted is = omega (arith, counted, is)
 
 -- ---- a label was done
 
-pub did_one : (semantics : Semantics) (old new : Course) (l : Label) (sends out : List Outgoing) (names : List (List ℕ)) (before middle after : List ℕ) → step semantics old.state l ≡ Some (new.state, sends)
+pub did_one : (semantics : Semantics) (old new : Course) (l : Label) (sends : List Outgoing) (before after : List ℕ) → step semantics old.state l ≡ Some (new.state, sends)
     → Fits semantics new.state → AreFitSends semantics l sends → CountsCells semantics l old.state sends new.state → old.cells ≡ cells_in old.state
-    → new.cells + cells_taken semantics l ≡ old.cells + (cells_put l + length sends) → names ≡ names_in semantics → middle ≡ before ++ (label_line names l ++ 10 ∷ [])
-    → out ≡ went_out (new.state, sends) → Wrote (sends_text semantics out) middle after → DidOne semantics l old new before after
-did_one semantics old new l sends out names before middle after ran fits fit counted was is named first went w = record {
+    → new.cells + cells_taken semantics l ≡ old.cells + (cells_put l + length sends) → WroteDone semantics l new.state sends before after → DidOne semantics l old new before after
+did_one semantics old new l sends before after ran fits fit counted was is w = record {
   sends = sends;
   ran = ran;
   fits = fits;
   cells = omega (arith, counted, was, is);
   few = let most = more semantics l sends fit in omega (arith, is, most);
-  wrote = one_wrote semantics old.state new.state l sends before middle after ran (first ∙ ap (λ n. before ++ (label_line n l ++ 10 ∷ [])) named)
-      (subst (λ x. Wrote (sends_text semantics x) middle after) went w);
+  wrote = one_wrote semantics old.state new.state l sends before w.middle after ran w.first w.wrote;
 }
 
 one_after : (m : Semantics) (s t : State) (l : Label) (sends : List Outgoing) → step m s l ≡ Some (t, sends) → state_after m s (l ∷ []) ≡ Some t
@@ -138,12 +139,13 @@ one_after m s t l sends h = rw h refl
 one_moment : (m : Semantics) (s t : State) (l : Label) (sends : List Outgoing) → step m s l ≡ Some (t, sends) → moments m s (l ∷ []) ≡ (s, l) ∷ []
 one_moment m s t l sends h = rw h refl
 
--- it is a run of one label, where the cursors and the errors go on with it
+-- it is a run of one label, where the cursors, the generators and the errors go on with it
 pub did : (semantics : Semantics) (old new : Course) (l : Label) (before after : List ℕ) → DidOne semantics l old new before after → Chooses semantics (old.state, l) old.turnstiles new.turnstiles
-    → Rejects (old.state, l) old.errors new.errors → IsSized (length semantics.processes) l → Did semantics (l ∷ []) old new before after
-did semantics old new l before after d chosen rejected sized = record {
+    → Draws semantics (old.state, l) old.generators new.generators → Rejects (old.state, l) old.errors new.errors → IsSized (length semantics.processes) l → Did semantics (l ∷ []) old new before after
+did semantics old new l before after d chosen drawn rejected sized = record {
   ran = one_after semantics old.state new.state l d.sends d.ran;
   chosen = subst (λ ms. AllChoose semantics ms old.turnstiles new.turnstiles) (sym (one_moment semantics old.state new.state l d.sends d.ran)) (new.turnstiles, chosen, refl);
+  drawn = subst (λ ms. AllDraw semantics ms old.generators new.generators) (sym (one_moment semantics old.state new.state l d.sends d.ran)) (new.generators, drawn, refl);
   rejected = subst (λ ms. AllReject ms old.errors new.errors) (sym (one_moment semantics old.state new.state l d.sends d.ran)) (new.errors, rejected, refl);
   sized = (sized, tt);
   wrote = d.wrote;
@@ -151,20 +153,25 @@ did semantics old new l before after d chosen rejected sized = record {
 
 -- and it leaves a course
 pub course_after : (semantics : Semantics) (old new : Course) (l : Label) (before after : List ℕ) → IsCourse semantics old → DidOne semantics l old new before after
-    → Chooses semantics (old.state, l) old.turnstiles new.turnstiles → Rejects (old.state, l) old.errors new.errors → IsCourse semantics new
-course_after semantics old new l before after course d chosen rejected = record {
+    → Chooses semantics (old.state, l) old.turnstiles new.turnstiles → Draws semantics (old.state, l) old.generators new.generators → Rejects (old.state, l) old.errors new.errors → IsCourse semantics new
+course_after semantics old new l before after course d chosen drawn rejected = record {
   fits = d.fits;
   cursors = cursors_kept semantics ((old.state, l) ∷ []) old.turnstiles new.turnstiles (new.turnstiles, chosen, refl) course.cursors;
+  generators = generators_kept semantics (old.state, l) old.generators new.generators drawn ∙ course.generators;
   errors = errors_kept semantics old.state new.state l d.sends old.errors new.errors course.fits d.ran rejected course.errors;
   cells = d.cells;
 }
 
--- a plain label leaves the cursors and the errors
+-- a plain label leaves the cursors, the generators and the errors
 pub plain_chooses : (semantics : Semantics) (s : State) (l : Label) (old new : List Cursor) → IsPlain l → new ≡ old → Chooses semantics (s, l) old new
 plain_chooses semantics s (label.Act p a choices) old new plain same = absurd plain
 plain_chooses semantics s (label.Arrive q p) old new plain same = absurd plain
 plain_chooses semantics s (label.Reject q p i) old new plain same = absurd plain
 plain_chooses semantics s _ old new plain same = same
+
+pub plain_draws : (semantics : Semantics) (s : State) (l : Label) (old new : List Lcg) → IsPlain l → new ≡ old → Draws semantics (s, l) old new
+plain_draws semantics s (label.Act p a choices) old new plain same = absurd plain
+plain_draws semantics s _ old new plain same = same
 
 pub plain_rejects : (s : State) (l : Label) (old new : List (List ℕ)) → IsPlain l → new ≡ old → Rejects (s, l) old new
 plain_rejects s (label.Act p a choices) old new plain same = absurd plain
@@ -175,9 +182,9 @@ plain_rejects s _ old new plain same = same
 -- ---- runs, one behind the other
 
 pub did_nothing : (semantics : Semantics) (course : Course) (text : List ℕ) → Did semantics [] course course text text
-did_nothing semantics course text = record { ran = refl; chosen = refl; rejected = refl; sized = tt; wrote = none_wrote semantics course.state text }
+did_nothing semantics course text = record { ran = refl; chosen = refl; drawn = refl; rejected = refl; sized = tt; wrote = none_wrote semantics course.state text }
 
-both : {A : Type 0} (P : A → Type 0) (xs ys : List A) → Each P xs → Each P ys → Each P (xs ++ ys)
+pub both : {A : Type 0} (P : A → Type 0) (xs ys : List A) → Each P xs → Each P ys → Each P (xs ++ ys)
 both P [] ys h k = k
 both P (x ∷ xs) ys h k = (h.0, both P xs ys h.1 k)
 
@@ -195,6 +202,8 @@ did_more semantics a b c xs ys before middle after d e =
       ran = goes_on semantics a.state b.state c.state xs ys d.ran e.ran;
       chosen = subst (λ ms. AllChoose semantics ms a.turnstiles c.turnstiles) (sym split)
           (all_joined semantics (moments semantics a.state xs) (moments semantics b.state ys) a.turnstiles b.turnstiles c.turnstiles d.chosen e.chosen);
+      drawn = subst (λ ms. AllDraw semantics ms a.generators c.generators) (sym split)
+          (all_draw_joined semantics (moments semantics a.state xs) (moments semantics b.state ys) a.generators b.generators c.generators d.drawn e.drawn);
       rejected = subst (λ ms. AllReject ms a.errors c.errors) (sym split) (all_reject_joined (moments semantics a.state xs) (moments semantics b.state ys) a.errors b.errors c.errors d.rejected e.rejected);
       sized = both (IsSized (length semantics.processes)) xs ys d.sized e.sized;
       wrote = wrote_more semantics a.state b.state xs ys before middle after d.ran d.wrote e.wrote;

@@ -92,10 +92,10 @@ peer_there m s q p i fits e = option_and_then_some first_error_in (channel_of q 
 
 -- it was rejected, and is no longer the first
 pub one_rejected : (m : Semantics) (old middle new : Course) (p q i : ℕ) (before after : List ℕ) → IsCourse m old → old.state.falling ≡ None → p < length m.processes → q < length m.processes → i < 2 ^ 32
-    → first_of old.errors p ≡ Some q → first_error old.state q p ≡ Some i → DidOne m (label.Reject q p i) old middle before after → middle.turnstiles ≡ old.turnstiles → middle.errors ≡ old.errors
-    → IfSome (slice_get middle.errors p) (λ senders. new.errors ≡ slice_set middle.errors p (drop 1 senders)) → new.state ≡ middle.state → new.turnstiles ≡ middle.turnstiles → new.cells ≡ middle.cells
+    → first_of old.errors p ≡ Some q → first_error old.state q p ≡ Some i → DidOne m (label.Reject q p i) old middle before after → middle.turnstiles ≡ old.turnstiles → middle.generators ≡ old.generators → middle.errors ≡ old.errors
+    → IfSome (slice_get middle.errors p) (λ senders. new.errors ≡ slice_set middle.errors p (drop 1 senders)) → new.state ≡ middle.state → new.turnstiles ≡ middle.turnstiles → new.generators ≡ middle.generators → new.cells ≡ middle.cells
     → Rejected m p 1 old new before after
-one_rejected m old middle new p q i before after whole settled there peer short first at d cursors errors moved state turnstiles cells =
+one_rejected m old middle new p q i before after whole settled there peer short first at d cursors draws errors moved state turnstiles generators cells =
     let b = begins old.errors p q first in
     let stood : slice_get middle.errors p ≡ Some (q ∷ b.others) = ap (λ (es : List (List ℕ)). slice_get es p) errors ∙ b.stood in
     let goes : new.errors ≡ slice_set middle.errors p b.others = subst (λ o. IfSome o (λ (senders : List ℕ). new.errors ≡ slice_set middle.errors p (drop 1 senders))) stood moved in
@@ -110,13 +110,14 @@ one_rejected m old middle new p q i before after whole settled there peer short 
       wrote = d.wrote;
     } in
     let chosen = turnstiles ∙ cursors in
+    let drawn = generators ∙ draws in
     let leaves = reject_moves m old.state new.state q p i e.sends settled e.ran in
     record {
       labels = label.Reject q p i ∷ [];
       of_process = ((q, i, refl), tt);
       counted = refl;
-      did = did m old new (label.Reject q p i) before after e chosen rejects (peer, there, short);
-      course = course_after m old new (label.Reject q p i) before after whole e chosen rejects;
+      did = did m old new (label.Reject q p i) before after e chosen drawn rejects (peer, there, short);
+      course = course_after m old new (label.Reject q p i) before after whole e chosen drawn rejects;
       settled = ap (λ (s : State). s.falling) leaves.next ∙ settled;
       down = ap (λ (s : State). s.down) leaves.next;
       fewer = fewer_arrived m old.state new.state q p i e.sends e.ran;

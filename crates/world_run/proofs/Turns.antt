@@ -10,20 +10,22 @@ use Rattle.abstract_run.specs.declared.label.Label.TheVariants as label
 use Rattle.abstract_run.specs.declared.state.Falling.{Falling}
 use Rattle.abstract_run.specs.declared.state.State.{State}
 use Rattle.abstract_run.specs.Answers.{EndsTurn, IsSegment, arrived, cut_off, down, fell, live, most_waiting, ran}
-use Rattle.abstract_run.specs.Progress.{IsPossible, NeedsNoChoice}
+use Rattle.abstract_run.specs.Progress.{IsPossible}
 use Rattle.abstract_run.specs.Run.{state_after}
-use Rattle.abstract_run.specs.Safe.{BodiesKeepRanges}
+use Rattle.abstract_run.specs.Enabled.{is_enabled}
 use Rattle.abstract_run.specs.Step.{is_live, is_zero, step}
-use Rattle.abstract_run.proofs.GoesOn.{actions_go_on, live_process, room_by, ticks_go_on}
+use Rattle.abstract_run.proofs.GoesOn.{live_process, ticks_go_on}
 use Rattle.abstract_run.proofs.Kept.{some_fits}
 use Rattle.abstract_run.proofs.Ticked.{Read}
-use Rattle.exact_choice.specs.Choice.{AllChoose}
+use Rattle.exact_choice.specs.Choice.{AllChoose, ChoosesAct}
+use Rattle.rand_pcg.specs.Lcg.{Lcg}
+use Rattle.exact_choice.specs.Draws.{AllDraw, DrawsAct}
 use Rattle.exact_choice.specs.Moments.{moments}
 use Rattle.exact_choice.specs.Rejects.{AllReject}
 use Rattle.exact_choice.proofs.RejectsGoOn.{none_waits}
 use Rattle.world_run.specs.declared.course.Course.{Course}
 use Rattle.world_run.specs.Served.{Did, IsCourse, IsSteady, Served, WroteLines}
-use Rattle.world_run.specs.inner.Serving.{Chose, DidOne, Ended, Rejected, fall_labels}
+use Rattle.world_run.specs.inner.Serving.{Chose, DidAct, DidOne, Ended, Rejected, fall_labels}
 use Rattle.world_run.proofs.Leaves.{IsNoAct, fall_of, flood_possible, idle_possible, live_by, one_step, other_cut, settled_after, stop_possible, tick_reads, zero_cut}
 use Rattle.world_run.proofs.OneLabel.{course_after, did, did_more}
 use Rattle.world_run.proofs.Rejecting.{clean}
@@ -111,68 +113,85 @@ live_served m a b c d p r n t0 t1 t2 t3 steady up there uncut tick rejected most
 
 -- ---- the end of a turn
 
-pub act_possible : (m : Semantics) (c v : Course) (p a : ℕ) (choices : List ℤ) → BodiesKeepRanges m → NeedsNoChoice m → IsSteady m c → is_live c.state p ≡ true → c.cells ≤ 100000 → v.state ≡ c.state → choices ≡ []
-    → Chose m c.state p c.turnstiles (Some a) v.turnstiles → IsPossible m v.state (label.Act p a choices)
-act_possible m c v p a choices keep free steady up room same none chose =
-    subst (λ s. IsPossible m s (label.Act p a choices)) (sym same) (subst (λ cs. IsPossible m c.state (label.Act p a cs)) (sym none)
-    (actions_go_on m c.state p a keep free steady.whole.fits steady.settled up (room_by c.state.channels 64 (let cells = steady.whole.cells in omega (arith, cells, room))) chose.next.first.wanted))
-
-pub act_refused : (m : Semantics) (c v : Course) (p a : ℕ) (choices : List ℤ) → BodiesKeepRanges m → NeedsNoChoice m → IsSteady m c → is_live c.state p ≡ true → c.cells ≤ 100000 → v.state ≡ c.state → choices ≡ []
-    → Chose m c.state p c.turnstiles (Some a) v.turnstiles → step m v.state (label.Act p a choices) ≡ None → ⊥
-act_refused m c v p a choices keep free steady up room same none chose refused = let x = act_possible m c v p a choices keep free steady up room same none chose in let is = x.is in cc
+-- an action that was chosen is enabled
+pub chosen_enabled : (m : Semantics) (c v : Course) (p a : ℕ) → v.state ≡ c.state → Chose m c.state p c.turnstiles (Some a) v.turnstiles → is_enabled m v.state p a ≡ true
+chosen_enabled m c v p a same chose = subst (λ s. is_enabled m s p a ≡ true) (sym same) chose.next.first.wanted
 
 -- an action that was chosen was done
-pub acted : (m : Semantics) (c v d : Course) (p a : ℕ) (choices : List ℤ) (before after : List ℕ) → v.state ≡ c.state → v.cells ≡ c.cells → choices ≡ [] → DidOne m (label.Act p a choices) v d before after
-    → DidOne m (label.Act p a []) c d before after
-acted m c v d p a choices before after state cells none x = record {
+one_acted : (m : Semantics) (c v d : Course) (l : Label) (before after : List ℕ) → v.state ≡ c.state → v.cells ≡ c.cells → DidOne m l v d before after → DidOne m l c d before after
+one_acted m c v d l before after state cells x = record {
   sends = x.sends;
-  ran = subst (λ cs. step m c.state (label.Act p a cs) ≡ Some (d.state, x.sends)) none (subst (λ s. step m s (label.Act p a choices) ≡ Some (d.state, x.sends)) state x.ran);
+  ran = subst (λ s. step m s l ≡ Some (d.state, x.sends)) state x.ran;
   fits = x.fits;
   cells = x.cells;
   few = let few = x.few in omega (arith, few, cells);
-  wrote = subst (λ cs. WroteLines m c.state (label.Act p a cs ∷ []) before after) none (subst (λ s. WroteLines m s (label.Act p a choices ∷ []) before after) state x.wrote);
+  wrote = subst (λ s. WroteLines m s (l ∷ []) before after) state x.wrote;
 }
 
-pub act_course : (m : Semantics) (c v d : Course) (p a : ℕ) (choices : List ℤ) (before after : List ℕ) → IsCourse m c → v.state ≡ c.state → v.cells ≡ c.cells → v.errors ≡ c.errors → choices ≡ []
-    → Chose m c.state p c.turnstiles (Some a) v.turnstiles → DidOne m (label.Act p a choices) v d before after → d.turnstiles ≡ v.turnstiles → d.errors ≡ v.errors → IsCourse m d
-act_course m c v d p a choices before after whole state cells errors none chose x cursors rest =
-    course_after m c d (label.Act p a []) before after whole (acted m c v d p a choices before after state cells none x)
-    (subst (λ (cs : List Cursor). Chose m c.state p c.turnstiles (Some a) cs) (sym cursors) chose) (rest ∙ errors)
+acted : (m : Semantics) (c v d : Course) (p a : ℕ) (before after : List ℕ) → v.state ≡ c.state → v.cells ≡ c.cells → v.generators ≡ c.generators → DidAct m p a v d before after → DidAct m p a c d before after
+acted m c v d p a before after state cells generators x = record {
+  choices = x.choices;
+  drawn = subst (λ s. DrawsAct m s p a x.choices c.generators d.generators) state (subst (λ (gs : List Lcg). DrawsAct m v.state p a x.choices gs d.generators) generators x.drawn);
+  sized = x.sized;
+  did = one_acted m c v d (label.Act p a x.choices) before after state cells x.did;
+}
 
-act_ends : (m : Semantics) (c v d e : Course) (p a n : ℕ) (choices : List ℤ) (before middle after : List ℕ) → IsSteady m c → v.state ≡ c.state → v.cells ≡ c.cells → v.errors ≡ c.errors → choices ≡ []
-    → Chose m c.state p c.turnstiles (Some a) v.turnstiles → p < length m.processes → a < 2 ^ 32 → DidOne m (label.Act p a choices) v d before middle → d.turnstiles ≡ v.turnstiles → d.errors ≡ v.errors
+-- what the choice of an action leaves, and the action behind it
+pub record Behind (m : Semantics) (c v d : Course) (p a : ℕ) (before after : List ℕ) : Type 0 where
+  pub state : v.state ≡ c.state
+  pub cells : v.cells ≡ c.cells
+  pub generators : v.generators ≡ c.generators
+  pub errors : v.errors ≡ c.errors
+  pub chose : Chose m c.state p c.turnstiles (Some a) v.turnstiles
+  pub act : DidAct m p a v d before after
+  pub turnstiles : d.turnstiles ≡ v.turnstiles
+  pub left : d.errors ≡ v.errors
+
+module _ (m : Semantics) (c v d : Course) (p a : ℕ) (before after : List ℕ) (x : Behind m c v d p a before after) where
+  its_act : DidAct m p a c d before after
+  its_act = acted m c v d p a before after x.state x.cells x.generators x.act
+
+  its_choice : ChoosesAct m c.state p a c.turnstiles d.turnstiles
+  its_choice = subst (λ (cs : List Cursor). ChoosesAct m c.state p a c.turnstiles cs) (sym x.turnstiles) x.chose
+
+  pub act_course : IsCourse m c → IsCourse m d
+  act_course whole = course_after m c d (label.Act p a its_act.choices) before after whole its_act.did its_choice its_act.drawn (x.left ∙ x.errors)
+
+  act_did : p < length m.processes → a < 2 ^ 32 → Did m (label.Act p a its_act.choices ∷ []) c d before after
+  act_did there short = did m c d (label.Act p a its_act.choices) before after its_act.did its_choice its_act.drawn (x.left ∙ x.errors) (there, short, its_act.sized)
+
+act_ends : (m : Semantics) (c v d e : Course) (p a n : ℕ) (before middle after : List ℕ) → IsSteady m c → Behind m c v d p a before middle → p < length m.processes → a < 2 ^ 32
     → Did m (fall_labels d.state.falling) d e middle after → IsSteady m e → e.cells ≤ d.cells → Ended m p n c e before after
-act_ends m c v d e p a n choices before middle after steady state cells errors none chose there short x cursors rest fallen last few =
-    let one = acted m c v d p a choices before middle state cells none x in
-    let first = did m c d (label.Act p a []) before middle one (subst (λ (cs : List Cursor). Chose m c.state p c.turnstiles (Some a) cs) (sym cursors) chose) (rest ∙ errors) (there, short, tt) in
+act_ends m c v d e p a n before middle after steady x there short fallen last few =
+    let one = its_act m c v d p a before middle x in
+    let l = label.Act p a one.choices in
     record {
-      labels = label.Act p a [] ∷ fall_labels d.state.falling;
-      ends = by_fall d.state.falling refl one;
-      did = did_more m c d e (label.Act p a [] ∷ []) (fall_labels d.state.falling) before middle after first fallen;
+      labels = l ∷ fall_labels d.state.falling;
+      ends = by_fall one.choices d.state.falling refl one.did;
+      did = did_more m c d e (l ∷ []) (fall_labels d.state.falling) before middle after (act_did m c v d p a before middle x there short) fallen;
       course = last.whole;
       settled = last.settled;
-      few = let more = one.few in omega (arith, few, more);
+      few = let more = one.did.few in omega (arith, few, more);
     } where
-      by_fall : (o : Option Falling) → d.state.falling ≡ o → DidOne m (label.Act p a []) c d before middle → EndsTurn p n (label.Act p a [] ∷ fall_labels o)
-      by_fall None is one = ran
-      by_fall (Some f) is one =
-          subst (λ q. EndsTurn p n (label.Act p a [] ∷ label.Stop q f.receivers ∷ [])) (sym (fall_of m c.state d.state p a [] one.sends f steady.settled one.ran is))
+      by_fall : (choices : List ℤ) (o : Option Falling) → d.state.falling ≡ o → DidOne m (label.Act p a choices) c d before middle → EndsTurn p n (label.Act p a choices ∷ fall_labels o)
+      by_fall choices None is one = ran
+      by_fall choices (Some f) is one =
+          subst (λ q. EndsTurn p n (label.Act p a choices ∷ label.Stop q f.receivers ∷ [])) (sym (fall_of m c.state d.state p a choices one.sends f steady.settled one.ran is))
           (fell (some_fits d.state f d.state.falling is one.fits.falling).some_receiver)
 
-pub act_ended : {T E : Type 0} (r : Result T E) (m : Semantics) (c v d e : Course) (p a n : ℕ) (choices : List ℤ) (before middle after : List ℕ) → IsSteady m c → v.state ≡ c.state → v.cells ≡ c.cells → v.errors ≡ c.errors → choices ≡ []
-    → Chose m c.state p c.turnstiles (Some a) v.turnstiles → p < length m.processes → a < 2 ^ 32 → DidOne m (label.Act p a choices) v d before middle → d.turnstiles ≡ v.turnstiles → d.errors ≡ v.errors
-    → OnOk r (Did m (fall_labels d.state.falling) d e middle after) → OnOk r (IsSteady m e) → OnOk r (e.cells ≤ d.cells) → OnOk r (Ended m p n c e before after)
-act_ended (Err x) m c v d e p a n choices before middle after steady state cells errors none chose there short one cursors rest fallen last few = tt
-act_ended (Ok x) m c v d e p a n choices before middle after steady state cells errors none chose there short one cursors rest fallen last few =
-    act_ends m c v d e p a n choices before middle after steady state cells errors none chose there short one cursors rest fallen last few
+pub act_ended : {T E : Type 0} (r : Result T E) (m : Semantics) (c v d e : Course) (p a n : ℕ) (before middle after : List ℕ) → IsSteady m c → Behind m c v d p a before middle
+    → p < length m.processes → a < 2 ^ 32 → OnOk r (Did m (fall_labels d.state.falling) d e middle after) → OnOk r (IsSteady m e) → OnOk r (e.cells ≤ d.cells) → OnOk r (Ended m p n c e before after)
+act_ended (Err why) m c v d e p a n before middle after steady x there short fallen last few = tt
+act_ended (Ok done) m c v d e p a n before middle after steady x there short fallen last few = act_ends m c v d e p a n before middle after steady x there short fallen last few
 
 -- where nothing is enabled
 
-pub did_from : (m : Semantics) (c v e : Course) (labels : List Label) (before after : List ℕ) → v.state ≡ c.state → v.turnstiles ≡ c.turnstiles → v.errors ≡ c.errors → Did m labels v e before after
+pub did_from : (m : Semantics) (c v e : Course) (labels : List Label) (before after : List ℕ) → v.state ≡ c.state → v.turnstiles ≡ c.turnstiles → v.generators ≡ c.generators → v.errors ≡ c.errors → Did m labels v e before after
     → Did m labels c e before after
-did_from m c v e labels before after state cursors errors d = record {
+did_from m c v e labels before after state cursors generators errors d = record {
   ran = subst (λ s. state_after m s labels ≡ Some e.state) state d.ran;
   chosen = subst (λ s. AllChoose m (moments m s labels) c.turnstiles e.turnstiles) state (subst (λ (cs : List Cursor). AllChoose m (moments m v.state labels) cs e.turnstiles) cursors d.chosen);
+  drawn = subst (λ s. AllDraw m (moments m s labels) c.generators e.generators) state (subst (λ (gs : List Lcg). AllDraw m (moments m v.state labels) gs e.generators) generators d.drawn);
   rejected = subst (λ s. AllReject (moments m s labels) c.errors e.errors) state (subst (λ (es : List (List ℕ)). AllReject (moments m v.state labels) es e.errors) errors d.rejected);
   sized = d.sized;
   wrote = subst (λ s. WroteLines m s labels before after) state d.wrote;
@@ -190,10 +209,10 @@ flood_can m c v p steady up same chose =
     let x = live_process m c.state p steady.whole.fits up in
     subst (λ s. IsPossible m s (label.Flood p)) (sym same) (flood_possible m c.state p x.0 steady.settled up x.1 chose.0)
 
-none_ends : (m : Semantics) (c v e : Course) (p n : ℕ) (l : Label) (before after : List ℕ) → IsSteady m c → v.state ≡ c.state → v.cells ≡ c.cells → v.errors ≡ c.errors
+none_ends : (m : Semantics) (c v e : Course) (p n : ℕ) (l : Label) (before after : List ℕ) → IsSteady m c → v.state ≡ c.state → v.cells ≡ c.cells → v.generators ≡ c.generators → v.errors ≡ c.errors
     → Chose m c.state p c.turnstiles None v.turnstiles → IsNoAct l → EndsTurn p n (l ∷ []) → Did m (l ∷ []) v e before after → IsCourse m e → e.cells ≤ v.cells + 0 → Ended m p n c e before after
-none_ends m c v e p n l before after steady state cells errors chose other ends d whole few =
-    let done = did_from m c v e (l ∷ []) before after state chose.1 errors d in
+none_ends m c v e p n l before after steady state cells generators errors chose other ends d whole few =
+    let done = did_from m c v e (l ∷ []) before after state chose.1 generators errors d in
     record {
       labels = l ∷ [];
       ends = ends;
@@ -203,8 +222,8 @@ none_ends m c v e p n l before after steady state cells errors chose other ends 
       few = omega (arith, few, cells);
     }
 
-pub none_ended : {T E : Type 0} (r : Result T E) (m : Semantics) (c v e : Course) (p n : ℕ) (l : Label) (before after : List ℕ) → IsSteady m c → v.state ≡ c.state → v.cells ≡ c.cells → v.errors ≡ c.errors
+pub none_ended : {T E : Type 0} (r : Result T E) (m : Semantics) (c v e : Course) (p n : ℕ) (l : Label) (before after : List ℕ) → IsSteady m c → v.state ≡ c.state → v.cells ≡ c.cells → v.generators ≡ c.generators → v.errors ≡ c.errors
     → Chose m c.state p c.turnstiles None v.turnstiles → IsNoAct l → EndsTurn p n (l ∷ []) → OnOk r (Did m (l ∷ []) v e before after) → OnOk r (IsCourse m e) → OnOk r (e.cells ≤ v.cells + 0)
     → OnOk r (Ended m p n c e before after)
-none_ended (Err x) m c v e p n l before after steady state cells errors chose other ends d whole few = tt
-none_ended (Ok x) m c v e p n l before after steady state cells errors chose other ends d whole few = none_ends m c v e p n l before after steady state cells errors chose other ends d whole few
+none_ended (Err x) m c v e p n l before after steady state cells generators errors chose other ends d whole few = tt
+none_ended (Ok x) m c v e p n l before after steady state cells generators errors chose other ends d whole few = none_ends m c v e p n l before after steady state cells generators errors chose other ends d whole few

@@ -10,8 +10,9 @@ use Rattle.abstract_run.specs.Answers.{Serves}
 use Rattle.abstract_run.specs.CellCount.{cells_in}
 use Rattle.abstract_run.specs.Fits.{Fits}
 use Rattle.abstract_run.specs.Run.{state_after}
-use Rattle.abstract_run.specs.Runnable.{IsRunnable}
+use Rattle.exact_choice.specs.Runnable.{IsRunnable}
 use Rattle.exact_choice.specs.Choice.{AllChoose, AreCursorsOf}
+use Rattle.exact_choice.specs.Draws.{AllDraw}
 use Rattle.exact_choice.specs.Moments.{moments}
 use Rattle.exact_choice.specs.Rejects.{AllReject, AreErrorsOf}
 use Rattle.run_text.specs.ScheduleText.{AreTwo}
@@ -25,11 +26,12 @@ use Rattle.world_run.specs.Layouts.{IsLayoutOf}
 
 -- ---- courses and worlds
 
--- A course of a run that fits what is said of a system: its state fits, there is a cursor for each process and a list of
--- the errors that have arrived at it, and the count is that of the cells.
+-- A course of a run that fits what is said of a system: its state fits, there is a cursor for each process, a generator
+-- and a list of the errors that have arrived at it, and the count is that of the cells.
 pub record IsCourse (semantics : Semantics) (course : Course) : Type 0 where
   pub fits : Fits semantics course.state
   pub cursors : AreCursorsOf semantics course.turnstiles
+  pub generators : length course.generators ≡ length semantics.processes
   pub errors : AreErrorsOf semantics course.state course.errors
   pub cells : course.cells ≡ cells_in course.state
 
@@ -67,11 +69,12 @@ pub record WroteLines (semantics : Semantics) (s : State) (labels : List Label) 
   pub told : after ≡ before ++ lines_text lines
 
 -- Labels were done, one after another, and their lines were written behind a text. Each action is the first enabled one
--- of its process in cyclic order from its cursor, which goes on. Each error that is rejected is the one of its process that
--- arrived first.
+-- of its process in cyclic order from its cursor, which goes on, and its choices are drawn by the next words of the
+-- generator of its process, one each. Each error that is rejected is the one of its process that arrived first.
 pub record Did (semantics : Semantics) (labels : List Label) (old new : Course) (before after : List ℕ) : Type 0 where
   pub ran : state_after semantics old.state labels ≡ Some new.state
   pub chosen : AllChoose semantics (moments semantics old.state labels) old.turnstiles new.turnstiles
+  pub drawn : AllDraw semantics (moments semantics old.state labels) old.generators new.generators
   pub rejected : AllReject (moments semantics old.state labels) old.errors new.errors
   pub sized : Each (IsSized (length semantics.processes)) labels
   pub wrote : WroteLines semantics old.state labels before after

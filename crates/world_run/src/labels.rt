@@ -7,7 +7,8 @@ ghost use Rattle.tap_exec.specs.Semantics.{semantics_of};
 ghost use Rattle.run_text.specs.Sized.{IsSized};
 ghost use Rattle.run_text.specs.TraceText as trace;
 ghost use Rattle.world_run.specs.Served.{Did, IsCourse};
-ghost use Rattle.world_run.specs.inner.Serving.{IsGiven, IsPlain, Tried, most_more, said_by};
+ghost use Rattle.abstract_run.specs.Kept.{AreFitSends};
+ghost use Rattle.world_run.specs.inner.Serving.{IsGiven, IsPlain, Tried, WroteDone, most_more, said_by};
 
 use crate::course::Course;
 use crate::given::Given;
@@ -16,7 +17,7 @@ use abstract_run::{Label, Outgoing, State, StepFault, step};
 use run_text::write_label;
 use tap_base::{Guard, NoMemory, System};
 
-/// Does a label that is possible, and that leaves cursors and errors as they are.
+/// Does a label that is possible, and that leaves cursors, generators and errors as they are.
 pub(crate) fn perform(
     given: &Given<'_>,
     course: &mut Course,
@@ -39,8 +40,8 @@ pub(crate) fn perform(
     Ok(())
 }
 
-/// Does a label where it is possible, and appends its lines. Answers whether it was possible. Cursors
-/// and errors are left to the caller.
+/// Does a label where it is possible, and appends its lines. Answers whether it was possible. Cursors,
+/// generators and errors are left to the caller.
 pub(crate) fn attempt(
     given: &Given<'_>,
     course: &mut Course,
@@ -52,13 +53,13 @@ pub(crate) fn attempt(
     requires room { course.old.cells ≤ 100000 }
     ensures tried { IfOk result (λ done. Tried (said_by given.now) label.now course.old course.new (string_bytes text.old) done (string_bytes text.new)) }
     ensures turnstiles { course.new.turnstiles ≡ course.old.turnstiles }
+    ensures generators { course.new.generators ≡ course.old.generators }
     ensures errors { course.new.errors ≡ course.old.errors }
 {
     match step(given.alloc, given.system, &mut course.state, label) {
         Ok(sends) => {
             course.cells = cells_behind(given.system, label, course.cells, sends.len());
-            write_label(text, given.names, label)?;
-            write_sends(text, given, went_out(&course.state, sends.as_slice()))?;
+            write_done(given, &course.state, label, sends.as_slice(), text)?;
             Ok(true)
         }
         Err(StepFault::NotEnabled) => Ok(false),
@@ -66,8 +67,24 @@ pub(crate) fn attempt(
     }
 }
 
+/// Appends the line of a label that was done, and the lines of those of its sends that went out.
+pub(crate) fn write_done(
+    given: &Given<'_>,
+    state: &State,
+    label: &Label,
+    sends: &[Outgoing],
+    text: &mut String,
+) -> Result<(), NoMemory>
+    requires given { IsGiven given.now }
+    requires fit { AreFitSends (said_by given.now) label.now sends.now }
+    ensures { OnOk result (WroteDone (said_by given.now) label.now state.now sends.now (string_bytes text.old) (string_bytes text.new)) }
+{
+    write_label(text, given.names, label)?;
+    write_sends(text, given, went_out(state, sends))
+}
+
 /// How many cells stand in the channels behind a label, with so many before it, and so many sends.
-fn cells_behind(system: &System, label: &Label, cells: u32, sends: usize) -> u32
+pub(crate) fn cells_behind(system: &System, label: &Label, cells: u32, sends: usize) -> u32
     requires few { cells ≤ 100000 }
     requires sends { sends ≤ 64 }
     requires taken { count.cells_taken (semantics_of system.now) label.now ≤ cells + (count.cells_put label.now + sends) }

@@ -1,8 +1,10 @@
 //! The world: the abstract system, which serves one event of a schedule at a time and writes its lines.
 #![tactic(auto)]
 
+mod acts;
 mod course;
 mod fault;
+mod generators;
 mod given;
 mod labels;
 mod layouts;

@@ -3,16 +3,17 @@
 ghost use Rattle.std.specs.Prelude.{◌≡◌, ◌+◌, ◌≤◌, ◌<◌, [], true, None, Some, length, slice_get, IfOk, IfSome, OnOk, string_bytes};
 ghost use Rattle.abstract_run.specs.Answers.{most_waiting};
 ghost use Rattle.abstract_run.specs.Fits.{Fits};
-ghost use Rattle.abstract_run.specs.Runnable.{IsRunnable};
+ghost use Rattle.exact_choice.specs.Runnable.{IsRunnable};
 ghost use Rattle.abstract_run.specs.Step.{is_live, is_zero};
 ghost use Rattle.exact_choice.specs.Choice.{AreCursorsOf};
 ghost use Rattle.tap_exec.specs.Semantics.{semantics_of};
 ghost use Rattle.world_run.specs.Served.{Did, IsCourse, IsSteady, Served, full_from};
 ghost use Rattle.world_run.specs.inner.Serving.{AreEnabled, Chose, Ended, IsGiven, action_count, fall_labels, said_by};
 
+use crate::acts::act;
 use crate::course::Course;
 use crate::given::Given;
-use crate::labels::{attempt, perform};
+use crate::labels::perform;
 use crate::rejects::{MOST_REJECTS, reject_arrived};
 use crate::turnstiles::pick;
 use abstract_run::{Event, Label, State, enabled};
@@ -87,15 +88,7 @@ fn end_turn(
 {
     match choose(given, course, process)? {
         Some(action) => {
-            let choices = List::new(given.alloc);
-            let act = Label::Act {
-                process,
-                action,
-                choices,
-            };
-            if !attempt(given, course, &act, text)? {
-                unreachable!();
-            }
+            act(given, course, process, action, text)?;
             stop_fallen(given, course, text)
         }
         None if rejects < MOST_REJECTS => perform(given, course, &Label::Idle { process }, text),
@@ -110,6 +103,7 @@ fn choose(given: &Given<'_>, course: &mut Course, process: u32) -> Result<Option
     requires there { process < length given.now.system.now.processes }
     ensures chose { IfOk result (λ action. Chose (said_by given.now) course.old.state process course.old.turnstiles action course.new.turnstiles) }
     ensures state { course.new.state ≡ course.old.state }
+    ensures generators { course.new.generators ≡ course.old.generators }
     ensures errors { course.new.errors ≡ course.old.errors }
     ensures cells { course.new.cells ≡ course.old.cells }
     ensures course { IfOk result (λ action. IsCourse (said_by given.now) course.new) }

@@ -5,9 +5,10 @@ ghost use Rattle.tap_base.specs.Wires.{wire_of};
 ghost use Rattle.abstract_run.specs.CellCount.{cells_in};
 ghost use Rattle.abstract_run.specs.Fits.{InputsFit};
 ghost use Rattle.abstract_run.specs.Opening.{opening_state};
-ghost use Rattle.abstract_run.specs.Runnable.{IsRunnable};
+ghost use Rattle.exact_choice.specs.Runnable.{IsRunnable};
 ghost use Rattle.tap_exec.specs.Semantics.{semantics_of};
 ghost use Rattle.exact_choice.specs.Choice.{opening_cursors};
+ghost use Rattle.exact_choice.specs.Draws.{opening_generators};
 ghost use Rattle.exact_choice.specs.Rejects.{opening_errors};
 ghost use Rattle.run_text.specs.TraceText.{last_lines, lines_text};
 ghost use Rattle.world_run.specs.Layouts.{HasLayout};
@@ -16,6 +17,7 @@ ghost use Rattle.world_run.specs.Served.{Answers, GoesOn, NamesProcesses};
 
 use crate::course::Course;
 use crate::fault::WorldFault;
+use crate::generators::generators_of;
 use crate::given::Given;
 use crate::layouts::layout_of;
 use crate::rejects::no_errors;
@@ -34,6 +36,8 @@ const MOST_CELLS: u32 = 99_936;
 #[derive(Debug, Drop)]
 pub struct World {
     pub system: System,
+    /// The seed of its draws.
+    pub seed: u64,
     /// How the messages of the system are written as bytes.
     pub layout: Layout,
     pub course: Course,
@@ -41,28 +45,33 @@ pub struct World {
 
 impl World {
     /// The system in its opening state, with a value for each of its inputs. In each process it is the
-    /// first action's turn.
-    pub fn new(alloc: Global, system: System, inputs: &Inputs) -> Result<World, NoMemory>
+    /// first action's turn, and its choices are drawn by the seed and its number.
+    pub fn new(alloc: Global, system: System, inputs: &Inputs, seed: u64) -> Result<World, NoMemory>
         requires runnable { IsRunnable system }
         requires inputs { InputsFit (semantics_of system) inputs.now }
         requires wire { HasLayout (wire_of system) }
         ensures system { IfOk result (λ w. w.system ≡ system) }
+        ensures seed { IfOk result (λ w. w.seed ≡ seed) }
         ensures opening { IfOk result (λ w. w.course.state ≡ opening_state (semantics_of system) inputs.now) }
         ensures cursors { IfOk result (λ w. w.course.turnstiles ≡ opening_cursors (semantics_of system)) }
+        ensures generators { IfOk result (λ w. w.course.generators ≡ opening_generators seed (semantics_of system)) }
         ensures errors { IfOk result (λ w. w.course.errors ≡ opening_errors (semantics_of system)) }
         ensures goes_on { IfOk result (λ w. GoesOn w) }
         ensures no_cells { IfOk result (λ w. w.course.cells ≡ 0) }
     {
         let state = init(alloc, &system, inputs)?;
         let turnstiles = turnstiles_of(alloc, &system)?;
+        let generators = generators_of(alloc, &system, seed)?;
         let errors = no_errors(alloc, &system)?;
         let layout = layout_of(alloc, &system)?;
         Ok(World {
             system,
+            seed,
             layout,
             course: Course {
                 state,
                 turnstiles,
+                generators,
                 errors,
                 cells: 0,
             },

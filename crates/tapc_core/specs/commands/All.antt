@@ -11,4 +11,4 @@ abbrev pub command_for : Option Asked → Command
 command_for None = no_command
 command_for (Some (check system)) = check_command system
 command_for (Some (print system)) = print_command system
-command_for (Some (world system schedule settings)) = world_command system schedule settings
+command_for (Some (world system schedule seed settings)) = world_command system schedule seed settings

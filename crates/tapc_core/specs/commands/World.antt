@@ -1,4 +1,4 @@
--- The command `world`: a run of a system on a schedule, with the inputs that settings give.
+-- The command `world`: a run of a system on a schedule, with the inputs and the seed that settings give.
 use Rattle.std.specs.Prelude.{◌≡◌, ◌⊎◌, ⊤, ℕ, ◌+◌, ◌<◌, List, [], ◌∷◌, ◌++◌, length, Some}
 use Rattle.tap_base.specs.declared.system.Inputs.{Inputs}
 use Rattle.tap_base.specs.declared.system.System.{System}
@@ -9,7 +9,8 @@ use Rattle.abstract_run.specs.declared.label.Event.{Event}
 use Rattle.run_text.specs.OneTrace.{IsTraceOf}
 use Rattle.run_text.specs.ScheduleText.{BeginsSchedule, GoesOnAfter, MeetsEvent, SpellsSchedule}
 use Rattle.run_text.specs.TraceText.{names_in}
-use Rattle.tap_front.specs.Runs.{CanRun, OffendsRun}
+use Rattle.tap_front.specs.Accepting.{Accepted}
+use Rattle.tap_front.specs.Offences.{Offends}
 use Rattle.tap_settings.specs.GivenInputs.{inputs_given}
 use Rattle.tap_settings.specs.Lines.{refused_setting_line}
 use Rattle.tap_base.specs.ListWords.{first}
@@ -24,9 +25,9 @@ use Rattle.tapc_core.specs.commands.Text.{HasOffence, HasSystem, IsRefusal, leav
 use Rattle.tapc_core.specs.declared.status.Status.{Status}
 use Rattle.tapc_core.specs.declared.status.Status.TheVariants.{Done, Refused, BadSchedule, ReadFault, WriteFault, NoMemory, WorldFull}
 
--- the two files of these names, and the settings
-abbrev pub task_of : List ℕ → List ℕ → List Assignment → Contents → Task
-task_of system schedule settings contents = record { text = contents system; schedule = contents schedule; settings = settings }
+-- the two files of these names, the seed, and the settings of inputs
+abbrev pub task_of : List ℕ → List ℕ → ℕ → List Assignment → Contents → Task
+task_of system schedule seed settings contents = record { text = contents system; schedule = contents schedule; seed = seed; settings = settings }
 
 -- ---- what is written
 
@@ -79,7 +80,7 @@ pub record IsMisset (task : Task) (bytes : List ℕ) : Type 0 where
 
 abbrev pub OfWorld : Task → Status → List ℕ → Type 0
 OfWorld task Done bytes = IsTrace task bytes
-OfWorld task Refused bytes = IsRefusal OffendsRun task.text bytes ⊎ IsMisset task bytes
+OfWorld task Refused bytes = IsRefusal Offends task.text bytes ⊎ IsMisset task bytes
 OfWorld task BadSchedule bytes = IsBadTrace task bytes
 OfWorld task ReadFault bytes = bytes ≡ read_fault_line
 OfWorld task WorldFull bytes = IsFullTrace task bytes
@@ -107,10 +108,10 @@ IsPlayed NoMemory = ⊤
 IsPlayed WorldFull = ⊤
 IsPlayed _ = ⊥
 
--- Told files: the text can be run as a system, the settings give it inputs, and the schedule is of this kind for it and
+-- Told files: the text is accepted as a system, the settings give it inputs, and the schedule is of this kind for it and
 -- some events.
 pub record HasSchedule (Kind : List (List ℕ) → List ℕ → List Event → Type 0) (task : Task) : Type 0 where
-  pub text : HasSystem CanRun task.text
+  pub text : HasSystem Accepted task.text
   pub inputs : Inputs
   pub given : inputs_given text.system task.settings ≡ Some inputs
   pub schedule : List ℕ
@@ -118,9 +119,9 @@ pub record HasSchedule (Kind : List (List ℕ) → List ℕ → List Event → T
   pub events : List Event
   pub kind : Kind (names_in (semantics_of text.system)) schedule events
 
--- A told text can be run as a system, and the settings have an offence for it.
+-- A told text is accepted as a system, and the settings have an offence for it.
 pub record HasMisset (task : Task) : Type 0 where
-  pub text : HasSystem CanRun task.text
+  pub text : HasSystem Accepted task.text
   pub refusal : SettingRefusal
   pub is : first (settings_offences text.system task.settings) ≡ Some refusal
 
@@ -131,12 +132,12 @@ IsNeverFull task = (bytes : List ℕ) → IsFullTrace task bytes → ⊥
 pub data WorldIsSure (task : Task) : Status → Type 0 where
   plays : HasSchedule SpellsSchedule task → IsNeverFull task → WorldIsSure task Done
   stops : HasSchedule GoesOnAfter task → IsNeverFull task → WorldIsSure task BadSchedule
-  refuses : HasOffence OffendsRun task.text → WorldIsSure task Refused
+  refuses : HasOffence Offends task.text → WorldIsSure task Refused
   missets : HasMisset task → WorldIsSure task Refused
 
 -- ---- the command
 
--- the schedule is read once the text can be run, and the settings give inputs
+-- the schedule is read once the text is accepted, and the settings give inputs
 abbrev pub reads_both : List ℕ → List ℕ → Status → List (List ℕ)
 reads_both system schedule Done = system ∷ schedule ∷ []
 reads_both system schedule BadSchedule = system ∷ schedule ∷ []
@@ -144,11 +145,11 @@ reads_both system schedule WorldFull = system ∷ schedule ∷ []
 reads_both system schedule Refused = system ∷ []
 reads_both system schedule _ = []
 
-abbrev pub world_command : List ℕ → List ℕ → List Assignment → Command
-world_command system schedule settings = record {
+abbrev pub world_command : List ℕ → List ℕ → ℕ → List Assignment → Command
+world_command system schedule seed settings = record {
   answers = IsOfWorld;
   reads = reads_both system schedule;
-  writes = λ contents. OfWorld (task_of system schedule settings contents);
-  is_sure = λ contents. WorldIsSure (task_of system schedule settings contents);
+  writes = λ contents. OfWorld (task_of system schedule seed settings contents);
+  is_sure = λ contents. WorldIsSure (task_of system schedule seed settings contents);
   leaves = λ contents. leaves_refused (contents system);
 }

@@ -20,10 +20,11 @@ use Rattle.tapc_core.specs.declared.lines.Stop.TheVariants as stop
 use Rattle.world_run.specs.declared.fault.WorldFault.{WorldFault}
 use Rattle.world_run.specs.declared.fault.WorldFault.TheVariants as world_fault
 
--- The file of the system gives what the system says, and with the settings these inputs; and the schedule is this text,
--- where it is told.
-pub record AreOf (system : System) (inputs : Inputs) (schedule : List ℕ) (task : Task) : Type 0 where
+-- The file of the system gives what the system says, and with the settings these inputs; the seed is this one; and the
+-- schedule is this text, where it is told.
+pub record AreOf (seed : ℕ) (system : System) (inputs : Inputs) (schedule : List ℕ) (task : Task) : Type 0 where
   pub gives : FileGives task.text task.settings (semantics_of system) inputs
+  pub seed_is : task.seed ≡ seed
   pub schedule_is : IfSome task.schedule (λ text. schedule ≡ text)
 
 -- The lines of the events were read, and the rest of the schedule is left. The line feed of the last line may be
@@ -34,13 +35,13 @@ Passed names schedule events rest =
 
 -- The first events of a schedule were served, from a state to another, and the line of a number comes next. What was put
 -- since a moment, and then the page, are the lines of their labels.
-pub record Progress (semantics : Semantics) (start : State) (schedule rest : List ℕ) (number : ℕ) (s : State) (before now : Option (List ℕ)) (page : List ℕ) : Type 0 where
+pub record Progress (seed : ℕ) (semantics : Semantics) (start : State) (schedule rest : List ℕ) (number : ℕ) (s : State) (before now : Option (List ℕ)) (page : List ℕ) : Type 0 where
   pub events : List Event
   pub listed : AreListed (length (names_in semantics)) events
   pub passed : Passed (names_in semantics) schedule events rest
   pub count : number ≡ length events + 1
   pub labels : List Label
-  pub run : IsRunFrom semantics start events labels s
+  pub run : IsRunFrom seed semantics start events labels s
   pub sized : Each (IsSized (length semantics.processes)) labels
   pub put : List ℕ
   pub told : Appends before now put
@@ -49,13 +50,13 @@ pub record Progress (semantics : Semantics) (start : State) (schedule rest : Lis
   pub is : lines_text lines ≡ put ++ page
 
 -- A put failed: what was put is a front of the lines of the labels of some first events.
-pub record Broken (semantics : Semantics) (start : State) (schedule : List ℕ) (before now : Option (List ℕ)) : Type 0 where
+pub record Broken (seed : ℕ) (semantics : Semantics) (start : State) (schedule : List ℕ) (before now : Option (List ℕ)) : Type 0 where
   pub rest : List ℕ
   pub number : ℕ
   pub last : State
   pub middle : Option (List ℕ)
   pub page : List ℕ
-  pub progress : Progress semantics start schedule rest number last before middle page
+  pub progress : Progress seed semantics start schedule rest number last before middle page
   pub front : List ℕ
   pub behind : List ℕ
   pub cut : front ++ behind ≡ page
@@ -73,14 +74,14 @@ pub record IsNext (names : List (List ℕ)) (rest : List ℕ) (number : ℕ) : T
 
 -- what playing a schedule leaves: it is served to its end, or a line is none, or an event is reached with too many cells,
 -- or memory was refused, or a put failed
-abbrev pub Plays : Semantics → State → List ℕ → Option (List ℕ) → Result Unit Stop → State → Option (List ℕ) → List ℕ → Type 0
-Plays semantics start schedule before (Ok x) s now page = (number : ℕ) × Progress semantics start schedule [] number s before now page
-Plays semantics start schedule before (Err (stop.BadLine number)) s now page =
-    (rest : List ℕ) × (rest ≡ [] → ⊥) × ((most_events < number) ⊎ BeginsBadly (names_in semantics) rest) × Progress semantics start schedule rest number s before now page
-Plays semantics start schedule before (Err (stop.Full cells)) s now page =
-    (rest : List ℕ) × (number : ℕ) × IsNext (names_in semantics) rest number × (full_from < cells) × (cells ≡ cells_in s) × Progress semantics start schedule rest number s before now page
-Plays semantics start schedule before (Err stop.NoMemory) s now page = (rest : List ℕ) × (number : ℕ) × (t : State) × Progress semantics start schedule rest number t before now page
-Plays semantics start schedule before (Err stop.Failed) s now page = Broken semantics start schedule before now
+abbrev pub Plays : ℕ → Semantics → State → List ℕ → Option (List ℕ) → Result Unit Stop → State → Option (List ℕ) → List ℕ → Type 0
+Plays seed semantics start schedule before (Ok x) s now page = (number : ℕ) × Progress seed semantics start schedule [] number s before now page
+Plays seed semantics start schedule before (Err (stop.BadLine number)) s now page =
+    (rest : List ℕ) × (rest ≡ [] → ⊥) × ((most_events < number) ⊎ BeginsBadly (names_in semantics) rest) × Progress seed semantics start schedule rest number s before now page
+Plays seed semantics start schedule before (Err (stop.Full cells)) s now page =
+    (rest : List ℕ) × (number : ℕ) × IsNext (names_in semantics) rest number × (full_from < cells) × (cells ≡ cells_in s) × Progress seed semantics start schedule rest number s before now page
+Plays seed semantics start schedule before (Err stop.NoMemory) s now page = (rest : List ℕ) × (number : ℕ) × (t : State) × Progress seed semantics start schedule rest number t before now page
+Plays seed semantics start schedule before (Err stop.Failed) s now page = Broken seed semantics start schedule before now
 
 -- what moving a page to a sink leaves: the front that was put, and then the page, are the page as it was
 abbrev pub Moves : {E : Type 0} → List ℕ → Option (List ℕ) → Result Unit E → List ℕ → Option (List ℕ) → Type 0

@@ -1,5 +1,6 @@
 -- How a world serves an event, label by label.
-use Rattle.std.specs.Prelude.{◌≡◌, ℕ, ◌<◌, ◌≤◌, ◌+◌, Bool, true, false, List, [], ◌∷◌, ◌++◌, length, map, slice_get, slice_set, Option, Some, None}
+use Rattle.std.specs.Prelude.{◌≡◌, ℕ, ◌<◌, ◌≤◌, ◌+◌, Bool, true, false, List, [], ◌∷◌, ◌++◌, ℤ, FitsSigned, length, map, slice_get, slice_set, Option, Some, None}
+use Rattle.std.specs.Int.{w64}
 use Rattle.std.specs.Option.{option_map}
 use Rattle.tap_base.specs.declared.system.System.{System}
 use Rattle.tap_base.specs.Lists.{Each}
@@ -16,12 +17,14 @@ use Rattle.abstract_run.specs.Answers.{EndsTurn, IsRejectOf, arrived}
 use Rattle.abstract_run.specs.CellCount.{cells_in}
 use Rattle.abstract_run.specs.Enabled.{is_enabled}
 use Rattle.abstract_run.specs.Fits.{Fits}
-use Rattle.abstract_run.specs.Runnable.{IsRunnable}
+use Rattle.exact_choice.specs.Runnable.{IsRunnable}
 use Rattle.abstract_run.specs.Step.{step}
+use Rattle.rand_pcg.specs.Lcg.{Lcg}
 use Rattle.guard_scheduler.specs.Cursor.{Cursor}
 use Rattle.guard_scheduler.specs.Turnstile.{Picks}
 use Rattle.exact_choice.specs.Choice.{ChoosesAct}
-use Rattle.run_text.specs.TraceText.{Datagram, datagram, lines_text, names_in, sent_line}
+use Rattle.exact_choice.specs.Draws.{DrawsAct}
+use Rattle.run_text.specs.TraceText.{Datagram, datagram, label_line, lines_text, names_in, sent_line, went_out}
 use Rattle.world_run.specs.declared.course.Course.{Course}
 use Rattle.world_run.specs.declared.given.Given.{Given}
 use Rattle.world_run.specs.Layouts.{IsLayoutOf}
@@ -51,6 +54,12 @@ pub record Wrote (expected : Option (List ℕ)) (before after : List ℕ) : Type
   pub shown : expected ≡ Some lines
   pub told : after ≡ before ++ lines
 
+-- The line of a label was written behind a text, and then those of the sends that went out.
+pub record WroteDone (semantics : Semantics) (l : Label) (new : State) (sends : List Outgoing) (before after : List ℕ) : Type 0 where
+  pub middle : List ℕ
+  pub first : middle ≡ before ++ (label_line (names_in semantics) l ++ 10 ∷ [])
+  pub wrote : Wrote (sends_text semantics (went_out (new, sends))) middle after
+
 -- ---- one label
 
 -- how many cells more than before a label leaves at most
@@ -74,7 +83,7 @@ abbrev pub Tried : Semantics → Label → Course → Course → List ℕ → Bo
 Tried semantics l old new before true after = DidOne semantics l old new before after
 Tried semantics l old new before false after = (step semantics old.state l ≡ None) × (new ≡ old) × (after ≡ before)
 
--- It leaves the cursors and the lists of errors.
+-- It leaves the cursors, the generators and the lists of errors.
 abbrev pub IsPlain : Label → Type 0
 IsPlain (label.Act p a choices) = ⊥
 IsPlain (label.Arrive q p) = ⊥
@@ -129,6 +138,20 @@ PicksAt old p enabled picked new = (from : Cursor) → slice_get old p ≡ Some 
 abbrev pub Chose : Semantics → State → ℕ → List Cursor → Option ℕ → List Cursor → Type 0
 Chose semantics s p old (Some a) new = ChoosesAct semantics s p a old new
 Chose semantics s p old None new = ((a : ℕ) → is_enabled semantics s p a ≡ false) × (new ≡ old)
+
+-- The generator of a process was taken out, and another one stands in its place.
+pub record IsTaken (old : List Lcg) (p : ℕ) (taken : Lcg) (new : List Lcg) : Type 0 where
+  pub stood : slice_get old p ≡ Some taken
+  pub other : Lcg
+  pub left : new ≡ slice_set old p other
+
+-- An action was done with choices that the generator of its process drew, each a number of 64 bits, and its lines were
+-- written behind a text.
+pub record DidAct (semantics : Semantics) (p a : ℕ) (old new : Course) (before after : List ℕ) : Type 0 where
+  pub choices : List ℤ
+  pub drawn : DrawsAct semantics old.state p a choices old.generators new.generators
+  pub sized : Each (FitsSigned w64) choices
+  pub did : DidOne semantics (label.Act p a choices) old new before after
 
 -- the stop that is due where a cut fell
 abbrev pub fall_labels : Option Falling → List Label

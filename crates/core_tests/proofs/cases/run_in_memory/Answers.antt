@@ -9,10 +9,10 @@ use Rattle.tapc_core.specs.declared.status.Status.TheVariants.{Done}
 
 pub returns : goal.returns
 returns c = record {
-  done = λ system schedule settings same e.
+  done = λ system schedule seed settings same e.
       let contents = contents_of c.args.store.now.entries in
       let asked = command_of c.args.words.now in
       let answered : AreFound ((command_for asked).reads Done) contents = subst (λ s. AreFound ((command_for asked).reads s) contents) e (c.run.ensures.found tt) in
-      let found : AreFound ((command_for (Some (world system schedule settings))).reads Done) contents = subst (λ a. AreFound ((command_for a).reads Done) contents) same answered in
-      took system schedule settings c.args.store.now c.args.out.now c.run.new.out found (c.run.ensures.done system schedule settings same e);
+      let found : AreFound ((command_for (Some (world system schedule seed settings))).reads Done) contents = subst (λ a. AreFound ((command_for a).reads Done) contents) same answered in
+      took system schedule seed settings c.args.store.now c.args.out.now c.run.new.out found (c.run.ensures.done system schedule seed settings same e);
 }

@@ -1,7 +1,7 @@
 use Rattle.std.proofs.Common.{◌≡◌, ◌≤◌, ℕ, ℤ, List, [], ◌∷◌, length, drop, refl, ap, sym, ◌∙◌, arith}
 use Rattle.std.proofs.lemmas.List.{drop_all}
 use Rattle.std.proofs.lemmas.Bool.Decides.{nat_tests}
-use Rattle.tap_exec.specs.Execution.{writes}
+use Rattle.tap_exec.specs.Sourced.{writes}
 use Rattle.tap_exec.proofs.assign.write_all.Goals as goal
 
 writes_nothing : (ks : List ℕ) (cells : List ℤ) → writes ks [] cells ≡ cells

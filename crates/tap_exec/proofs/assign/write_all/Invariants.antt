@@ -1,5 +1,5 @@
 use Rattle.std.proofs.Common.{◌≡◌, drop}
-use Rattle.tap_exec.specs.Execution.{writes}
+use Rattle.tap_exec.specs.Sourced.{writes}
 use Rattle.tap_exec.proofs.assign.write_all.Given as goal
 
 abbrev pub invariant-loop-at : goal.invariant-loop-at

@@ -24,9 +24,6 @@ returns-clause-in_range c = search (rules, of_stmts, of_exprs)
 pub returns-clause-branches : goal.returns-clause-branches
 returns-clause-branches c = search (rules, of_stmts, of_exprs)
 
-pub returns-clause-asked_for : goal.returns-clause-asked_for
-returns-clause-asked_for c = search (rules, of_stmts, of_exprs)
-
 pub returns-clause-filled : goal.returns-clause-filled
 returns-clause-filled c = search (rules, of_stmts, of_exprs)
 

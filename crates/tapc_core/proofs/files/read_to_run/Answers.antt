@@ -4,9 +4,10 @@ use Rattle.tap_base.specs.Wires.{wire_of}
 use Rattle.tap_lexer.specs.Bytes.{start}
 use Rattle.tap_expr.specs.ExprText.{refusal}
 use Rattle.tap_front.specs.Accepting.{TellsApart}
-use Rattle.tap_front.specs.Offences.{misspelled, too_long}
-use Rattle.tap_front.specs.Runs.{OffendsRun, unaccepted}
+use Rattle.tap_front.specs.Offences.{Offends, misspelled, too_long}
 use Rattle.tap_front.specs.declared.offence.Offence.TheVariants.{Coded}
+use Rattle.tap_front.proofs.Runs.{accepted_runs}
+use Rattle.exact_choice.specs.Runnable.{IsRunnable}
 use Rattle.world_run.specs.Layouts.{HasLayout}
 use Rattle.tapc_core.proofs.Fronts.{apart_names, has_layout}
 use Rattle.tapc_core.proofs.TreesRead.{read_long}
@@ -15,12 +16,15 @@ use Rattle.tapc_core.proofs.files.read_to_run.Goals as goal
 pub returns-in-TooLong-clause-refused : goal.returns-in-TooLong-clause-refused
 returns-in-TooLong-clause-refused g c = λ o e.
     let same : Coded (refusal code.L0 start) ≡ o = cc in
-    read_long OffendsRun (λ text h. unaccepted (misspelled (too_long h))) _ _ c.in_ok-text.field-0 o c.in-TooLong.is same c.in_ok-text.ensures.text
+    read_long Offends (λ text h. misspelled (too_long h)) _ _ c.in_ok-text.field-0 o c.in-TooLong.is same c.in_ok-text.ensures.text
 
-pub returns-in_ok-accept_to_run-in-Whole-clause-apart : goal.returns-in_ok-accept_to_run-in-Whole-clause-apart
-returns-in_ok-accept_to_run-in-Whole-clause-apart g c =
-    apart_names c.into_system.result (subst TellsApart (sym c.into_system.ensures.system) c.in_ok-accept_to_run-in-Whole.ensures.named)
+pub returns-in_ok-accept-in-Whole-clause-apart : goal.returns-in_ok-accept-in-Whole-clause-apart
+returns-in_ok-accept-in-Whole-clause-apart g c =
+    apart_names c.into_system.result (subst TellsApart (sym c.into_system.ensures.system) c.in_ok-accept-in-Whole.ensures.named)
 
-pub returns-in_ok-accept_to_run-in-Whole-clause-wire : goal.returns-in_ok-accept_to_run-in-Whole-clause-wire
-returns-in_ok-accept_to_run-in-Whole-clause-wire g c =
-    subst (λ s. HasLayout (wire_of s)) (sym c.into_system.ensures.system) (has_layout _ _ c.in_ok-accept_to_run-in-Whole.ensures.reads)
+pub returns-in_ok-accept-in-Whole-clause-wire : goal.returns-in_ok-accept-in-Whole-clause-wire
+returns-in_ok-accept-in-Whole-clause-wire g c =
+    subst (λ s. HasLayout (wire_of s)) (sym c.into_system.ensures.system) (has_layout _ _ c.in_ok-accept-in-Whole.ensures.reads)
+
+pub returns-in_ok-accept-in-Whole-clause-runnable : goal.returns-in_ok-accept-in-Whole-clause-runnable
+returns-in_ok-accept-in-Whole-clause-runnable g c = subst IsRunnable (sym c.into_system.ensures.system) (accepted_runs _ _ c.in_ok-accept-in-Whole.ensures.reads)

@@ -5,7 +5,7 @@ use Rattle.std.proofs.lemmas.List.{length-map}
 use Rattle.tap_base.specs.declared.system.System.{System}
 use Rattle.tap_exec.specs.Semantics.{Semantics, messages_of, process_semantics, semantics_of}
 use Rattle.abstract_run.specs.CellCount.{cells_in}
-use Rattle.abstract_run.specs.Runnable.{IsRunnable}
+use Rattle.exact_choice.specs.Runnable.{IsRunnable}
 use Rattle.abstract_run.specs.declared.label.Event.{Event}
 use Rattle.abstract_run.specs.declared.label.Event.TheVariants as event
 use Rattle.abstract_run.specs.declared.state.State.{State}
@@ -57,28 +57,28 @@ in_room : (w : World) → GoesOn w → w.course.cells ≤ full_from → cells_in
 in_room w on few = let same = on.steady.whole.cells in omega (arith, same, few)
 
 -- a line was served by the system of the run
-served_line : {system own : System} {start : State} {schedule rest line tail : List ℕ} {number : ℕ} {old new : Course} {before now : Option (List ℕ)} {page after : List ℕ} {e : Event}
-    {names : List (List ℕ)} → own ≡ system → names ≡ names_in (semantics_of system) → number ≤ most_events → Goes (semantics_of system) start schedule rest number old before now page → (rest ≡ [] → ⊥)
-    → IsFirstLine rest line tail → IsLineOf names line e → cells_in old.state ≤ full_from → Served (semantics_of own) e old new page after → Goes (semantics_of system) start schedule tail (number + 1) new before now after
+served_line : {seed : ℕ} {system own : System} {start : State} {schedule rest line tail : List ℕ} {number : ℕ} {old new : Course} {before now : Option (List ℕ)} {page after : List ℕ} {e : Event}
+    {names : List (List ℕ)} → own ≡ system → names ≡ names_in (semantics_of system) → number ≤ most_events → Goes seed (semantics_of system) start schedule rest number old before now page → (rest ≡ [] → ⊥)
+    → IsFirstLine rest line tail → IsLineOf names line e → cells_in old.state ≤ full_from → Served (semantics_of own) e old new page after → Goes seed (semantics_of system) start schedule tail (number + 1) new before now after
 served_line {line = line} {old = old} {new = new} {page = page} {after = after} {e = e} same is few g some first spells room served =
     goes_more few g some first (subst (λ n. IsLineOf n line e) is spells) room (subst (λ x. Served (semantics_of x) e old new page after) same served)
 
 -- an event that was not served stops the playing where it is
-stopped : {m : Semantics} {start : State} {schedule rest : List ℕ} {number : ℕ} {old : Course} {before now : Option (List ℕ)} {page : List ℕ} (new : Course) (after : List ℕ) (e : Event)
-    (fault : WorldFault) → IsNext (names_in m) rest number → Goes m start schedule rest number old before now page → Answers m e old page (Err fault) new after
-    → Plays m start schedule before (Err (stopped_by fault)) new.state now after
-stopped {m = m} {start = start} {schedule = schedule} {rest = rest} {number = number} {before = before} {now = now} {page = page} new after e (world_fault.Full cells) next g h =
-    let here = subst (λ (x : Course). Progress m start schedule rest number x.state before now page) (sym h.2) g.progress in
-    (rest, number, next, h.0, h.1 ∙ ap (λ (x : Course). cells_in x.state) (sym h.2), subst (λ p. Progress m start schedule rest number new.state before now p) (sym h.3) here)
-stopped {m = m} {start = start} {schedule = schedule} {rest = rest} {number = number} {old = old} {before = before} {now = now} new after e world_fault.NoMemory next g h =
-    (rest, number, old.state, subst (λ p. Progress m start schedule rest number old.state before now p) (sym h.1) g.progress)
+stopped : {seed : ℕ} {m : Semantics} {start : State} {schedule rest : List ℕ} {number : ℕ} {old : Course} {before now : Option (List ℕ)} {page : List ℕ} (new : Course) (after : List ℕ) (e : Event)
+    (fault : WorldFault) → IsNext (names_in m) rest number → Goes seed m start schedule rest number old before now page → Answers m e old page (Err fault) new after
+    → Plays seed m start schedule before (Err (stopped_by fault)) new.state now after
+stopped {seed = seed} {m = m} {start = start} {schedule = schedule} {rest = rest} {number = number} {before = before} {now = now} {page = page} new after e (world_fault.Full cells) next g h =
+    let here = subst (λ (x : Course). Progress seed m start schedule rest number x.state before now page) (sym h.2) g.progress in
+    (rest, number, next, h.0, h.1 ∙ ap (λ (x : Course). cells_in x.state) (sym h.2), subst (λ p. Progress seed m start schedule rest number new.state before now p) (sym h.3) here)
+stopped {seed = seed} {m = m} {start = start} {schedule = schedule} {rest = rest} {number = number} {old = old} {before = before} {now = now} new after e world_fault.NoMemory next g h =
+    (rest, number, old.state, subst (λ p. Progress seed m start schedule rest number old.state before now p) (sym h.1) g.progress)
 
 pub loop-rest-smaller : goal.loop-rest-smaller
 loop-rest-smaller g c = first_line_taken c.loop-rest.rest.now _ c.first_line.result.1.now (search rules) c.first_line.ensures.first
 
 pub loop-rest-init : goal.loop-rest-init
 loop-rest-init g c = record {
-  going = rw c.requires.empty (goes_start _ _ _ _ c.requires.opened c.requires.no_errors);
+  going = rw c.requires.empty (goes_start _ _ _ _ _ c.requires.opened c.requires.no_errors c.requires.seeded);
   same = refl;
   goes_on = c.requires.goes_on;
   kept = refl;
@@ -172,7 +172,7 @@ returns-in_err-put_full_page-clause-plays g c =
     let room = in_room c.loop-rest.world inv.goes_on served.0 in
     let found = line_found c.args.names.now.processes _ c.loop-rest.number c.in_ok-event.field-0 c.in-Some.event c.in-Some.is c.in_ok-event.ensures.event c.in_ok-event.ensures.within in
     let progress = (served_line inv.same c.requires.names.processes found.1 inv.going some c.first_line.ensures.first found.0 room served.1).progress in
-    let broken : Broken m c.args.world.now.course.state c.args.schedule.now (g.O.Sink.written c.args.out.now) (g.O.Sink.written c.put_full_page.new.out) =
+    let broken : Broken c.args.world.now.seed m c.args.world.now.course.state c.args.schedule.now (g.O.Sink.written c.args.out.now) (g.O.Sink.written c.put_full_page.new.out) =
     record {
       rest = _;
       number = _;
@@ -185,7 +185,7 @@ returns-in_err-put_full_page-clause-plays g c =
       cut = moves.2;
       told = moves.3;
     } in
-    subst (λ r. Plays m c.args.world.now.course.state c.args.schedule.now (g.O.Sink.written c.args.out.now) r c.serve.new.self.course.state (g.O.Sink.written c.put_full_page.new.out) c.put_full_page.new.page.items)
+    subst (λ r. Plays c.args.world.now.seed m c.args.world.now.course.state c.args.schedule.now (g.O.Sink.written c.args.out.now) r c.serve.new.self.course.state (g.O.Sink.written c.put_full_page.new.out) c.put_full_page.new.page.items)
     (sym (err_is c.from_residual-in_err-put_full_page.result stop.Failed c.from_residual-in_err-put_full_page.ensures.1)) broken
 
 pub returns-in_err-serve-clause-plays : goal.returns-in_err-serve-clause-plays
@@ -204,5 +204,5 @@ returns-in_err-serve-clause-plays g c =
       few = found.1;
     } in
     let answers = subst (λ (x : System). Answers (semantics_of x) c.in-Some.event c.loop-rest.world.course c.loop-rest.page.items (Err c.in_err-serve.field-0.0) c.serve.new.self.course c.serve.new.page.items) inv.same c.in_err-serve.ensures.answers in
-    subst (λ r. Plays m c.args.world.now.course.state c.args.schedule.now (g.O.Sink.written c.args.out.now) r c.serve.new.self.course.state (g.O.Sink.written c.loop-rest.out) c.serve.new.page.items)
+    subst (λ r. Plays c.args.world.now.seed m c.args.world.now.course.state c.args.schedule.now (g.O.Sink.written c.args.out.now) r c.serve.new.self.course.state (g.O.Sink.written c.loop-rest.out) c.serve.new.page.items)
     (sym (err_is c.from_residual-in_err-serve.result (stopped_by c.in_err-serve.field-0.0) c.from_residual-in_err-serve.ensures.1)) (stopped c.serve.new.self.course c.serve.new.page.items c.in-Some.event c.in_err-serve.field-0.0 next inv.going answers)

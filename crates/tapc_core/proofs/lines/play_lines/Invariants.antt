@@ -7,7 +7,7 @@ use Rattle.tapc_core.proofs.lines.play_lines.Given as goal
 
 abbrev pub invariant-loop-rest : goal.invariant-loop-rest
 invariant-loop-rest g l = record {
-  going : Goes (semantics_of l.fn.world.system) l.fn.world.course.state l.schedule l.rest l.number l.world.course (g.O.Sink.written l.fn.out) (g.O.Sink.written l.out) l.page.items;
+  going : Goes l.fn.world.seed (semantics_of l.fn.world.system) l.fn.world.course.state l.schedule l.rest l.number l.world.course (g.O.Sink.written l.fn.out) (g.O.Sink.written l.out) l.page.items;
   same : l.world.system ≡ l.fn.world.system;
   goes_on : GoesOn l.world;
   kept : g.O.Sink.faults l.out ≡ g.O.Sink.faults l.fn.out;

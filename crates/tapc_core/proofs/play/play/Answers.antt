@@ -11,7 +11,8 @@ returns-in-Ok-new-clause-writes g c = λ task of.
     let world = c.in-Ok-new.world in
     let same = c.in-Ok-new.ensures.system in
     let begins = c.in-Ok-new.ensures.opening ∙ ap (λ s. opening_state (semantics_of s) c.args.inputs.now) (sym same) in
-    c.play_world.ensures.writes task c.args.inputs.now begins (subst (λ s. AreOf s c.args.inputs.now c.args.schedule.now task) (sym same) of)
+    c.play_world.ensures.writes task c.args.inputs.now begins
+    (subst (λ n. AreOf n world.system c.args.inputs.now c.args.schedule.now task) (sym c.in-Ok-new.ensures.seed) (subst (λ s. AreOf c.args.seed s c.args.inputs.now c.args.schedule.now task) (sym same) of))
 
 pub returns-in_default-clause-writes : goal.returns-in_default-clause-writes
 returns-in_default-clause-writes g c = λ task of. closes_alone (OfWorld task) (refused_memory task) c.close.ensures.closes

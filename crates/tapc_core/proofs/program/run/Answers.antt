@@ -8,7 +8,7 @@ use Rattle.tapc_core.proofs.Sure.{sure_status}
 use Rattle.tapc_core.proofs.program.run.Goals as goal
 
 pub returns-clause-done : goal.returns-clause-done
-returns-clause-done g c = λ system schedule settings same e.
+returns-clause-done g c = λ system schedule seed settings same e.
     let contents = g.S.Store.contents c.args.store.now in
     let before = g.O.Sink.written c.args.out.now in
     let now = g.O.Sink.written c.obey.new.out in

@@ -25,4 +25,4 @@ returns c =
     let short : c.in-Some.place < 2 ^ 32 = omega arith in
     one_rejected m old c.attempt.new.course (record c.attempt.new.course { errors = c.take_first.new.errors }) c.args.process c.args.from c.in-Some.place _ _ c.requires.course c.requires.settled
     (process_there m old.state c.args.process c.requires.course.fits c.requires.live) (peer_there m old.state c.args.from c.args.process c.in-Some.place c.requires.course.fits (sym c.in-Some.ensures)) short
-    c.requires.first (sym c.in-Some.ensures) d c.attempt.ensures.turnstiles c.attempt.ensures.errors c.take_first.ensures refl refl refl
+    c.requires.first (sym c.in-Some.ensures) d c.attempt.ensures.turnstiles c.attempt.ensures.generators c.attempt.ensures.errors c.take_first.ensures refl refl refl refl

@@ -23,7 +23,7 @@ returns-in_ok-one_more-clause-did c =
     let d = subst (λ (b : Bool). Tried m l old new (string_bytes c.args.text.now) b (string_bytes c.attempt.new.text)) c.if-not-branch.false c.in_ok-attempt.ensures.tried in
     let two = two_there c.args.given.now.system.now c.args.from c.args.to c.requires.two in
     arrival m old (record new { errors = c.one_more.new.errors }) c.args.from c.args.to true _ _ two.0 two.1 (sym c.if-bad.true ∙ c.arrives_bad-bad.ensures) (with_errors m old new l c.one_more.new.errors _ _ d)
-    c.attempt.ensures.turnstiles (c.in_ok-one_more.ensures ∙ ap (λ (es : List (List ℕ)). one_more c.args.from c.args.to es) c.attempt.ensures.errors)
+    c.attempt.ensures.turnstiles c.attempt.ensures.generators (c.in_ok-one_more.ensures ∙ ap (λ (es : List (List ℕ)). one_more c.args.from c.args.to es) c.attempt.ensures.errors)
 
 pub returns-in_ok-one_more-clause-course : goal.returns-in_ok-one_more-clause-course
 returns-in_ok-one_more-clause-course c =
@@ -33,7 +33,7 @@ returns-in_ok-one_more-clause-course c =
     let l = label.Arrive c.args.from c.args.to in
     let d = subst (λ (b : Bool). Tried m l old new (string_bytes c.args.text.now) b (string_bytes c.attempt.new.text)) c.if-not-branch.false c.in_ok-attempt.ensures.tried in
     arrival_course m old (record new { errors = c.one_more.new.errors }) c.args.from c.args.to true _ _ c.requires.steady.whole (sym c.if-bad.true ∙ c.arrives_bad-bad.ensures)
-    (with_errors m old new l c.one_more.new.errors _ _ d) c.attempt.ensures.turnstiles (c.in_ok-one_more.ensures ∙ ap (λ (es : List (List ℕ)). one_more c.args.from c.args.to es) c.attempt.ensures.errors)
+    (with_errors m old new l c.one_more.new.errors _ _ d) c.attempt.ensures.turnstiles c.attempt.ensures.generators (c.in_ok-one_more.ensures ∙ ap (λ (es : List (List ℕ)). one_more c.args.from c.args.to es) c.attempt.ensures.errors)
 
 pub returns-else-bad-clause-did : goal.returns-else-bad-clause-did
 returns-else-bad-clause-did c =
@@ -43,7 +43,7 @@ returns-else-bad-clause-did c =
     let l = label.Arrive c.args.from c.args.to in
     let d = subst (λ (b : Bool). Tried m l old new (string_bytes c.args.text.now) b (string_bytes c.attempt.new.text)) c.if-not-branch.false c.in_ok-attempt.ensures.tried in
     let two = two_there c.args.given.now.system.now c.args.from c.args.to c.requires.two in
-    arrival m old new c.args.from c.args.to false _ _ two.0 two.1 (sym c.if-bad.false ∙ c.arrives_bad-bad.ensures) d c.attempt.ensures.turnstiles c.attempt.ensures.errors
+    arrival m old new c.args.from c.args.to false _ _ two.0 two.1 (sym c.if-bad.false ∙ c.arrives_bad-bad.ensures) d c.attempt.ensures.turnstiles c.attempt.ensures.generators c.attempt.ensures.errors
 
 pub returns-else-bad-clause-course : goal.returns-else-bad-clause-course
 returns-else-bad-clause-course c =
@@ -52,4 +52,4 @@ returns-else-bad-clause-course c =
     let new = c.attempt.new.course in
     let l = label.Arrive c.args.from c.args.to in
     let d = subst (λ (b : Bool). Tried m l old new (string_bytes c.args.text.now) b (string_bytes c.attempt.new.text)) c.if-not-branch.false c.in_ok-attempt.ensures.tried in
-    arrival_course m old new c.args.from c.args.to false _ _ c.requires.steady.whole (sym c.if-bad.false ∙ c.arrives_bad-bad.ensures) d c.attempt.ensures.turnstiles c.attempt.ensures.errors
+    arrival_course m old new c.args.from c.args.to false _ _ c.requires.steady.whole (sym c.if-bad.false ∙ c.arrives_bad-bad.ensures) d c.attempt.ensures.turnstiles c.attempt.ensures.generators c.attempt.ensures.errors

@@ -3,7 +3,7 @@ use Rattle.world_run.specs.declared.course.Course.{Course}
 use Rattle.world_run.specs.inner.Serving.{Tried, said_by}
 use Rattle.world_run.proofs.Events.{done_or_void}
 use Rattle.world_run.proofs.Leaves.{void_possible}
-use Rattle.world_run.proofs.OneLabel.{course_after, did, plain_chooses, plain_rejects}
+use Rattle.world_run.proofs.OneLabel.{course_after, did, plain_chooses, plain_draws, plain_rejects}
 use Rattle.world_run.proofs.serve.try_plain.Goals as goal
 
 pub returns-then-branch-clause-did : goal.returns-then-branch-clause-did
@@ -14,7 +14,7 @@ returns-then-branch-clause-did c =
     let l = c.args.label.now in
     let d = subst (λ (b : Bool). Tried m l old new (string_bytes c.args.text.now) b (string_bytes c.attempt.new.text)) c.if-branch.true c.in_ok-attempt.ensures.tried in
     done_or_void m old new l new.state d.sends _ _ d.ran
-    (did m old new l _ _ d (plain_chooses m old.state l old.turnstiles new.turnstiles c.requires.plain c.attempt.ensures.turnstiles) (plain_rejects old.state l old.errors new.errors c.requires.plain c.attempt.ensures.errors)
+    (did m old new l _ _ d (plain_chooses m old.state l old.turnstiles new.turnstiles c.requires.plain c.attempt.ensures.turnstiles) (plain_draws m old.state l old.generators new.generators c.requires.plain c.attempt.ensures.generators) (plain_rejects old.state l old.errors new.errors c.requires.plain c.attempt.ensures.errors)
     c.requires.sized)
 
 pub returns-then-branch-clause-course : goal.returns-then-branch-clause-course
@@ -24,7 +24,7 @@ returns-then-branch-clause-course c =
     let new = c.attempt.new.course in
     let l = c.args.label.now in
     let d = subst (λ (b : Bool). Tried m l old new (string_bytes c.args.text.now) b (string_bytes c.attempt.new.text)) c.if-branch.true c.in_ok-attempt.ensures.tried in
-    course_after m old new l _ _ c.requires.steady.whole d (plain_chooses m old.state l old.turnstiles new.turnstiles c.requires.plain c.attempt.ensures.turnstiles)
+    course_after m old new l _ _ c.requires.steady.whole d (plain_chooses m old.state l old.turnstiles new.turnstiles c.requires.plain c.attempt.ensures.turnstiles) (plain_draws m old.state l old.generators new.generators c.requires.plain c.attempt.ensures.generators)
     (plain_rejects old.state l old.errors new.errors c.requires.plain c.attempt.ensures.errors)
 
 pub perform-requires-clause-possible : goal.perform-requires-clause-possible

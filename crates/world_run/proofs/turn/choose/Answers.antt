@@ -23,6 +23,7 @@ returns-clause-course c =
     record {
       fits = c.requires.course.fits;
       cursors = cursors_chosen (said_by a.given.now) a.course.now.state a.process a.course.now.turnstiles c.pick.new.turnstiles c.pick.result x c.requires.course.cursors;
+      generators = c.requires.course.generators;
       errors = c.requires.course.errors;
       cells = c.requires.course.cells;
     }

@@ -1,0 +1,10 @@
+use Rattle.std.proofs.Common.{ℤ, ap, ◌∙◌, rules}
+use Rattle.std.proofs.lemmas.Int.{to_z-of_z}
+use Rattle.std.specs.Int.{w64}
+use Rattle.code_steps.proofs.Moved.{loaded, put_in}
+use Rattle.code_steps.proofs.plain.load.Goals as goal
+
+pub returns : goal.returns
+returns c =
+    let same = to_z-of_z w64 c.get-x.result (search rules) in
+    loaded c.args.r c.args.base c.args.run c.args.index c.place.result c.get-x.result c.args.core.now c.put.new.self c.place.ensures.place c.get-x.ensures (c.put.ensures ∙ ap (λ (z : ℤ). put_in c.args.r z c.args.core.now) same)

@@ -1,0 +1,3 @@
+pub mod Ones
+pub mod Taken
+pub mod Timed

@@ -1,0 +1,14 @@
+pub mod Ahead
+pub mod Fronts
+pub mod Keywords
+pub mod OneVerdict
+pub mod OneWay
+pub mod Progressed
+pub mod Reading
+pub mod Refusals
+pub mod SameFront
+pub mod Sent
+pub mod Taken
+pub mod Texts
+pub mod Unbroken
+pub mod Walked

@@ -1,0 +1,9 @@
+mod Away
+mod Faults
+mod Gathered
+mod Goes
+mod Listed
+mod OneSchedule
+mod Ranges
+mod Sends
+mod Words
