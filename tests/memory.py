@@ -1,6 +1,6 @@
 """Where the n-th request for memory is refused, and where all from it on are, every command ends well, for every n.
 
-A run ends with status 7 and `no memory` behind whole lines of its usual output, which only `world` may have; or as it
+A run ends with status 7 and `no memory` behind whole lines of its usual output, which only `world` and `make` may have; or as it
 would end with ample memory. Never with a signal. No proof says that the program's own words are read and answered
 where memory is short. A small library, loaded before the C library, refuses.
 """
@@ -21,6 +21,10 @@ COMMANDS = [
     ["world", "examples/hello/hello.tap", "examples/hello/hello.sch", "a.number=256"],
     ["world", "examples/hello/hello.tap", "examples/hello/hello.sch", "a.number"],
     ["world", "examples/draws/draws.tap", "examples/draws/draws.sch", "seed=1"],
+    ["replay", TEXT, "examples/relay/relay.out"],
+    ["replay", TEXT, SCHEDULE],
+    ["make", TEXT, "1", "200", "20"],
+    ["soak", TEXT, "1", "20", "5"],
     ["check", "examples/refused/s1_missing_arrow.tap"],
     ["check", "examples/refused/m3_received_from_another_process.tap"],
     ["check", "examples/no-such-file"],
@@ -47,7 +51,7 @@ def ends_well(words, usual, status, written):
     if (status, written) == usual:
         return True
     front, line = written[:-len(b"no memory\n")], written[-len(b"no memory\n"):]
-    may_have_lines = words[:1] == ["world"]
+    may_have_lines = words[:1] in (["world"], ["make"])
     return (status, line) == (7, b"no memory\n") and (
         front == b"" or (may_have_lines and front.endswith(b"\n") and usual[1].startswith(front)))
 

@@ -14,9 +14,14 @@ LAST = [
     (0, "print", r"end\n"),
     (1, None, r"refused [A-Z]\d+ \d+:\d+\n"),
     (1, None, r"refused M2 \d+:\d+ [A-Za-z]\w* [A-Za-z]\w*\n"),
-    (1, "world", r"refused I\d [A-Za-z]\w*\.[A-Za-z]\w*\n"),
+    (0, "replay", r"run\n"),
+    (0, "make", r"(turn|arrive|lose|copy|move|damage|forge) .*\n"),
+    (0, "soak", r"end\n"),
+    (1, None, r"refused I\d [A-Za-z]\w*\.[A-Za-z]\w*\n"),
     (2, None, r"usage: tapc [a-z |]+\n"),
     (3, "world", r"bad line \d+\n"),
+    (3, "replay", r"bad line \d+\n"),
+    (8, "replay", r"not a run: line \d+\n"),
     (4, None, r"read fault\n"),
     (7, None, r"no memory\n"),
     (9, "world", r"full \d+\n"),
@@ -40,14 +45,17 @@ def main():
     schedules = [*sorted(glob.glob("examples/*/*.sch")), "examples/ping/ping.tap", "examples/no-such-file"]
     words = [[command, name] for command in ("check", "print", "make") for name in names]
     words += [["world", *pair] for pair in itertools.product(names, schedules)]
+    words += [["replay", *pair] for pair in itertools.product(names, ["examples/ping/ping.out", "examples/no-such-file"])]
+    words += [[command, name, "1", "20", "5"] for command in ("make", "soak") for name in names]
     for one in words:
         status, written = run(*one)
         wanted = status_of(one[0], written.decode())
         cases.hold(status == wanted, f"{one}: status {status}, and the last line is that of {wanted}: {written[-60:]!r}")
         seen.add((one[0], status))
-    for wanted in itertools.product(("check", "print", "world"), (0, 1, 2, 4)):
+    for wanted in itertools.product(("check", "print", "world", "replay", "make", "soak"), (0, 1, 2, 4)):
         cases.hold(wanted in seen, f"no run of {wanted[0]} ended with {wanted[1]}")
-    cases.hold(("world", 3) in seen, "no run of world ended with 3")
+    for wanted in ("world", 3), ("replay", 3), ("replay", 8):
+        cases.hold(wanted in seen, f"no run of {wanted[0]} ended with {wanted[1]}")
     cases.finish(least=200)
 
 

@@ -36,7 +36,32 @@ for seed in 0 1 18446744073709551615; do
     says 2 "$usage" world $text $schedule seed=$seed a.x seed=2
     says 2 "$usage" check $text seed=$seed
 done
-for word in '' -h --help --version help compile node replay make soak; do
+for word in '' a a.x x=1 a.x= a.x=01 seed=1 $schedule; do
+    says 2 "$usage" replay $text $schedule "$word"
+    says 2 "$usage" soak $text 1 0 0 "$word"
+done
+for number in '' -1 +1 01 1.0 0x1 '1 ' 1000001; do
+    for command in make soak; do
+        says 2 "$usage" $command $text 1 "$number" 0
+        says 2 "$usage" $command $text 1 0 "$number"
+        [ "$number" = 1000001 ] || says 2 "$usage" $command $text "$number" 0 0
+    done
+done
+for command in make soak; do
+    says 2 "$usage" $command $text
+    says 2 "$usage" $command $text 1
+    says 2 "$usage" $command $text 1 0
+    says 2 "$usage" $command '' 1 0 0
+    says 2 "$usage" $command $text 18446744073709551616 0 0
+    says 2 "$usage" ${command^} $text 1 0 0
+done
+says 2 "$usage" make $text 1 0 0 a.x=1
+says 2 "$usage" replay
+says 2 "$usage" replay $text
+says 2 "$usage" replay $text ''
+says 2 "$usage" replay '' $schedule
+says 2 "$usage" Replay $text $schedule
+for word in '' -h --help --version help compile node; do
     says 2 "$usage" "$word"
     says 2 "$usage" "$word" $text
     says 2 "$usage" "$word" $text $schedule

@@ -1,4 +1,6 @@
 pub mod Firsts
 pub mod Naming
+pub mod Ordered
 pub mod Spending
+pub mod Used
 pub mod Weights

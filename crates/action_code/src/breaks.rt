@@ -1,15 +1,15 @@
 //! The first rule that code breaks.
 
-ghost use Rattle.std.specs.Prelude.{◌≡◌, ◌<◌, ◌^◌, ◌-◌, IfOk, true, length, slice_get};
+ghost use Rattle.std.specs.Prelude.{◌≡◌, ◌<◌, ◌^◌, ◌-◌, IfOk, OnOk, true, length, slice_get};
 ghost use Rattle.tap_base.specs.ListWords.{by_number};
 ghost use Rattle.register_code.specs.Declarations as declared;
 ghost use Rattle.register_code.specs.Verified as whole;
-ghost use Rattle.code_rules.specs.Places.{HasTables, IsPlace, seen};
+ghost use Rattle.code_rules.specs.Places.{HasTables, IsInProcess, IsPlace, seen};
 
 use crate::costs::whole_rule;
 use crate::declarations::{fields_fit, guard_fits, temporaries_fit, values_fit};
 use crate::limits::limits_kept;
-use code_rules::{PartPlace, first_broken, place_of};
+use code_rules::{PartPlace, enter, first_broken, process_place};
 use register_code::{BadCode, Code, CodeAction, CodeProcess, Instr, Part};
 use std::alloc::Global;
 use tap_base::NoMemory;
@@ -103,6 +103,7 @@ fn part_break_at(
 fn action_break(
     alloc: Global,
     code: &Code,
+    place: &mut PartPlace,
     number: u32,
     process: &CodeProcess,
     at: u32,
@@ -110,23 +111,26 @@ fn action_break(
 ) -> Result<Option<BadCode>, NoMemory>
     requires fields { declared.fields_fit code.now ≡ true }
     requires few { declared.action_limits action.now ≡ true }
-    ensures { IfOk result (λ bad. bad ≡ slice_get (whole.action_breaks code.now number process.now at action.now) 0) }
+    requires place { IsInProcess number process.now place.old }
+    ensures first { IfOk result (λ bad. bad ≡ slice_get (whole.action_breaks code.now number process.now at action.now) 0) }
+    ensures place { OnOk result (IsInProcess number process.now place.new) }
 {
     if !temporaries_fit(action) {
         return Ok(Some(at_guard(number, at, 2)));
     }
-    let guard = place_of(alloc, number, process, action, Part::Guard)?;
-    if !guard_fits(code, number, process, action, guard.ranges.as_slice()) {
+    enter(place, alloc, number, process, action, Part::Guard)?;
+    if !guard_fits(code, number, process, action, place.ranges.as_slice()) {
         return Ok(Some(at_guard(number, at, 3)));
     }
-    if let Some(bad) = part_break_at(code, &guard, number, process, at, action, Part::Guard) {
+    if let Some(bad) = part_break_at(code, place, number, process, at, action, Part::Guard) {
         return Ok(Some(bad));
     }
-    let body = place_of(alloc, number, process, action, Part::Body)?;
-    Ok(part_break_at(code, &body, number, process, at, action, Part::Body))
+    enter(place, alloc, number, process, action, Part::Body)?;
+    Ok(part_break_at(code, place, number, process, at, action, Part::Body))
 }
 
-/// The first rule that the actions of a process break.
+/// The first rule that the actions of a process break. They have one place, whose shared registers are
+/// listed once.
 fn actions_break(
     alloc: Global,
     code: &Code,
@@ -137,10 +141,13 @@ fn actions_break(
     requires few { declared.process_limits process.now ≡ true }
     ensures { IfOk result (λ bad. bad ≡ slice_get (by_number 0 (whole.action_breaks code.now number process.now) process.now.actions) 0) }
 {
+    let mut place = process_place(alloc, number, process)?;
     let actions = process.actions.as_slice();
     for at in 0..actions.len() {
         let action = &actions[at];
-        if let Some(bad) = action_break(alloc, code, number, process, at as u32, action)? {
+        if let Some(bad) = action_break(
+            alloc, code, &mut place, number, process, at as u32, action,
+        )? {
             return Ok(Some(bad));
         }
     }

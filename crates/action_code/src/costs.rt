@@ -19,7 +19,7 @@ fn count_at(instrs: &[Instr], first: usize) -> u64
 }
 
 /// The weight of the instruction that follows.
-fn next_weight(instrs: &[Instr], at: usize, instr: Instr, weight: u64) -> u64
+pub(crate) fn next_weight(instrs: &[Instr], at: usize, instr: Instr, weight: u64) -> u64
     requires whole { AreWhole instrs.now }
     requires here { slice_get instrs.now at ≡ Some instr }
     requires was { weight ≡ spec.weight instrs.now at }

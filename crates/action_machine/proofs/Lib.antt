@@ -1,2 +1,5 @@
+pub mod Bodies
+pub mod Coming
+pub mod Inputs
 pub mod Made
 pub mod Placing

@@ -58,7 +58,7 @@ starts_guard code m n keep h verified machine a local held =
       counters = omega (arith, held.counters_room, room.guard);
     }
 
-same_action : (code : Code) (p n : ℕ) (a b : HasAction code p n) → a.action ≡ b.action
+pub same_action : (code : Code) (p n : ℕ) (a b : HasAction code p n) → a.action ≡ b.action
 same_action code p n a b =
     let process = one_found (slice_get code.processes p) a.of_process b.of_process a.there b.there in
     one_found (slice_get b.of_process.actions n) a.action b.action (subst (λ (q : CodeProcess). slice_get q.actions n ≡ Some a.action) process a.declared) b.declared

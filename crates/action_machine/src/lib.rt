@@ -3,7 +3,9 @@
 
 mod machine;
 mod making;
+mod running;
 mod steps;
 
+pub use drawn_steps::{Outbox, Sent};
 pub use machine::Machine;
 pub use steps::Steps;

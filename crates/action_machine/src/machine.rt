@@ -2,13 +2,20 @@
 
 ghost use Rattle.std.specs.Prelude.{◌≡◌, ◌<◌, length, slice_get, Some, IfOk};
 ghost use Rattle.action_machine.specs.Machines.{HasAction, HasGuard, InputsFit, IsMachineOf, IsNew, guard_of};
+ghost use Rattle.action_machine.specs.Runs.{CanRun, RunsAction};
 
 use crate::making::{initial_cells, most_counters, most_temporaries};
+use crate::running::finish;
+use crate::steps::Steps;
 use action_code::{Code, CodeAction, CodeProcess, Verified};
 use code_steps::{Core, judge};
+use drawn_steps::Outbox;
+use rand_pcg::Lcg64Xsh32;
 use std::alloc::Global;
 use std::marker::Model;
+use std::sync::ledger::Ledger;
 use tap_base::NoMemory;
+use timer_core::Timers;
 
 /// The cells and inputs of a process, with room for the registers and counters of each of its
 /// actions.
@@ -92,5 +99,42 @@ impl Machine {
         let process = process_of(code, self.process);
         let action = action_of(process, action);
         judge(&mut self.core, self.kept, action)
+    }
+
+    /// Runs the body of an action, with the choices that the generator draws. The code is that of the
+    /// machine's making. The outbox was made for it and is empty; it has then what the action sent and
+    /// chose. The steps grow by the instructions that run.
+    pub fn run<L: Ledger>(
+        &mut self,
+        code: &Verified,
+        action: u32,
+        message: &[i64],
+        draw: &mut Lcg64Xsh32,
+        timers: &mut Timers,
+        out: &mut Outbox,
+        steps: &mut Steps<L>,
+    )
+        requires machine { IsMachineOf code.now self.old }
+        requires can { CanRun code.now self.old action message.now timers.old out.old }
+        ensures runs { RunsAction code.now action message.now self.old self.new timers.old timers.new draw.old draw.new out.old out.new steps.old.book.total steps.new.book.total }
+        ensures machine { IsMachineOf code.now self.new }
+    {
+        let code = code.code();
+        let process = process_of(code, self.process);
+        let action = action_of(process, action);
+        let messages = code.messages.as_slice();
+        let instrs = action.body.as_slice();
+        self.core
+            .open(self.kept, action.temporaries.as_slice(), instrs.len());
+        finish(
+            &mut self.core,
+            messages,
+            instrs,
+            message,
+            draw,
+            timers,
+            out,
+            steps,
+        );
     }
 }

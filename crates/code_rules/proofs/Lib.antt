@@ -3,3 +3,4 @@ pub mod JumpFacts
 pub mod NestFacts
 pub mod OthersCounted
 pub mod SameRules
+pub mod Shared

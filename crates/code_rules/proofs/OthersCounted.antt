@@ -3,9 +3,9 @@ use Rattle.std.proofs.Common.{◌≡◌, ◌+◌, ◌<◌, ◌≤◌, ◌==◌, 
 use Rattle.std.specs.Prelude.{count_by, min}
 use Rattle.std.proofs.Math.Seq.{take-add}
 use Rattle.std.proofs.lemmas.Bool.{eq-eqb, ne_eqb}
-use Rattle.std.proofs.lemmas.List.{take_min}
-use Rattle.std.proofs.lemmas.List.Sums.{count_by_more_no, count_by_more_yes, sum_by-append, sum_by-cons}
-use Rattle.std.proofs.lemmas.Option.{none-some, same_Some}
+use Rattle.std.proofs.lemmas.List.{length-take-le, take_min, take-take}
+use Rattle.std.proofs.lemmas.List.Sums.{count_by-le-length, count_by_more_no, count_by_more_yes, sum_by-append, sum_by-cons}
+use Rattle.std.proofs.lemmas.Option.{none-some, same_Some, slice_get-get_or, slice_get_within}
 use Rattle.tap_base.specs.declared.place.Range.{Range}
 use Rattle.tap_base.specs.Interval.{truth_range}
 use Rattle.register_code.specs.Results.{are_truths}
@@ -72,3 +72,32 @@ counts_more xs table n k h e is i m at = by_place (appended table k i m at) wher
 pub one_at_most : (b : Bool) → cond b 1 0 ≤ 1
 one_at_most true = omega arith
 one_at_most false = omega arith
+
+-- ---- so many registers, of more
+
+got_front : {A : Type 0} (xs : List A) (m i : ℕ) (x : A) → slice_get (take m xs) i ≡ Some x → (slice_get xs i ≡ Some x) × (i < m)
+got_front xs zero i x e = absurd (none-some x e)
+got_front [] (suc m) i x e = absurd (none-some x e)
+got_front (y ∷ ys) (suc m) zero x e = (e, omega arith)
+got_front (y ∷ ys) (suc m) (suc i) x e = let rest = got_front ys m i x e in (rest.0, omega (arith, rest.1))
+
+-- those of the first so many registers
+pub counts_cut : (ranges : List Range) (others : List ℕ) (n m : ℕ) → n ≤ length ranges → m ≡ n + 1 → AreOthers ranges others → AreOthers (take n ranges) (take m others)
+counts_cut ranges others n m l e h = record {
+  counted = length-take-le m others (omega (arith, e, l, h.counted)) ∙ e ∙ sym (ap (λ k. k + 1) (length-take-le n ranges l));
+  each = λ i k at. let there = got_front others m i k at in h.each i k there.0 ∙ ap (count_by is_other) (sym (take-take i n ranges (omega (arith, e, there.1))));
+}
+
+-- the same, of all registers
+pub counts_front : (ranges : List Range) (table : List ℕ) (n : ℕ) → n ≤ length ranges → AreOthers (take n ranges) table → (length table ≡ n + 1) × AreCounts ranges table
+counts_front ranges table n l h =
+    let long : length table ≡ n + 1 = h.counted ∙ ap (λ k. k + 1) (length-take-le n ranges l) in
+    (long, λ i k at. let there = slice_get_within table i k at in h.each i k at ∙ ap (count_by is_other) (take-take i n ranges (omega (arith, long, there))))
+
+pub count_at_end : (ranges : List Range) (table : List ℕ) (n : ℕ) → n ≤ length ranges → AreOthers (take n ranges) table → get_or table n 0 ≡ count_by is_other (take n ranges)
+count_at_end ranges table n l h =
+    let front = counts_front ranges table n l h in
+    front.1 n (get_or table n 0) (slice_get-get_or table n 0 (omega (arith, front.0)))
+
+pub count_few : (ranges : List Range) (n : ℕ) → n ≤ length ranges → count_by is_other (take n ranges) ≤ n
+count_few ranges n l = omega (arith, count_by-le-length is_other (take n ranges), length-take-le n ranges l)

@@ -13,6 +13,6 @@ mod sending;
 mod truths;
 
 pub use nests::Nests;
-pub use place::{PartPlace, place_of};
+pub use place::{PartPlace, enter, process_place};
 pub use ranges::{both_in, range_at};
 pub use rules::first_broken;

@@ -1,13 +1,13 @@
 //! Where the instructions of a part stand.
 
-ghost use Rattle.std.specs.Prelude.{◌≡◌, ◌++◌, ◌<◌, ◌^◌, IfOk, OnOk, map, replicate, length};
+ghost use Rattle.std.specs.Prelude.{◌≡◌, ◌++◌, ◌-◌, ◌<◌, ◌≤◌, ◌^◌, IfOk, OnOk, map, replicate, length, take};
 ghost use Rattle.tap_base.specs.Interval.{from_to};
 ghost use Rattle.register_code.specs.Registers as spec;
 ghost use Rattle.register_code.specs.Verified.{instrs_of};
-ghost use Rattle.code_rules.specs.Places.{IsPlace};
+ghost use Rattle.code_rules.specs.Places.{HasShared, IsInProcess, IsPlace, SetsRegisters};
 
 use crate::nests::{Nests, nests_of};
-use crate::truths::others_of;
+use crate::truths::{count_others, others_of};
 use register_code::{
     CodeAction, CodeInput, CodeKind, CodeProcess, CodeTemporary, CodeVariable, Instr, Part,
 };
@@ -15,13 +15,14 @@ use std::alloc::Global;
 use tap_base::{List, NoMemory, Range};
 
 /// Where the instructions of a part stand: the process by number, how many cells, inputs and timers
-/// it has, the ranges of all registers, and the message that the action receives; and the tables by
-/// which the rules are judged.
+/// it has, and how many registers its actions share; the ranges of all registers, and the message that
+/// the action receives; and the tables by which the rules are judged.
 #[derive(Debug, Drop)]
 pub struct PartPlace {
     pub process: u32,
     pub cells: usize,
     pub inputs: usize,
+    pub shared: usize,
     pub timers: u32,
     pub ranges: List<Range>,
     pub received: Option<u32>,
@@ -97,34 +98,70 @@ fn instrs_of(action: &CodeAction, part: Part) -> &[Instr]
     }
 }
 
-/// The place of a part of an action, in the time of the part's length and the number of its
-/// registers. `NoMemory` comes where memory was refused.
-pub fn place_of(
+/// The place of a process, which is none of a part yet. `NoMemory` comes where memory was refused.
+pub fn process_place(
     alloc: Global,
     number: u32,
     process: &CodeProcess,
-    action: &CodeAction,
-    part: Part,
 ) -> Result<PartPlace, NoMemory>
-    requires { length (instrs_of part action.now) < 2 ^ 32 }
-    ensures { IfOk result (IsPlace number process.now action.now part) }
+    ensures { IfOk result (IsInProcess number process.now) }
 {
     let mut ranges = List::new(alloc);
     push_cells(&mut ranges, process.variables.as_slice())?;
     let cells = ranges.len();
     push_inputs(&mut ranges, process.inputs.as_slice())?;
-    push_temporaries(&mut ranges, action.temporaries.as_slice())?;
-    let others = others_of(alloc, ranges.as_slice())?;
-    let nests = nests_of(alloc, instrs_of(action, part))?;
     Ok(PartPlace {
         process: number,
         cells,
         inputs: process.inputs.len(),
+        shared: ranges.len(),
         timers: process.timers as u32,
+        others: others_of(alloc, ranges.as_slice())?,
         ranges,
-        received: received(action),
-        part,
-        nests,
-        others,
+        received: None,
+        part: Part::Guard,
+        nests: nests_of(alloc, &[])?,
     })
+}
+
+/// Leaves out so many at the end.
+fn drop_last<T: Drop>(all: &mut List<T>, count: usize)
+    requires { count ≤ length all.old }
+    ensures { all.new ≡ take (length all.old - count) all.old }
+{
+    let left = all.len() - count;
+    all.items.truncate(left);
+}
+
+/// The registers of an action in place of those of another action of the process.
+fn set_registers(place: &mut PartPlace, temporaries: &[CodeTemporary]) -> Result<(), NoMemory>
+    requires { HasShared place.old }
+    ensures { OnOk result (SetsRegisters temporaries.now place.old place.new) }
+{
+    let own = place.ranges.len() - place.shared;
+    drop_last(&mut place.ranges, own);
+    drop_last(&mut place.others, own);
+    push_temporaries(&mut place.ranges, temporaries)?;
+    count_others(&mut place.others, place.ranges.as_slice(), place.shared)
+}
+
+/// Goes from one part of a process to a part of any of its actions, in the time of that part's length
+/// and of the number of its temporaries. `NoMemory` comes where memory was refused.
+pub fn enter(
+    place: &mut PartPlace,
+    alloc: Global,
+    number: u32,
+    process: &CodeProcess,
+    action: &CodeAction,
+    part: Part,
+) -> Result<(), NoMemory>
+    requires few { length (instrs_of part action.now) < 2 ^ 32 }
+    requires place { IsInProcess number process.now place.old }
+    ensures { OnOk result (IsPlace number process.now action.now part place.new) }
+{
+    set_registers(place, action.temporaries.as_slice())?;
+    place.received = received(action);
+    place.part = part;
+    place.nests = nests_of(alloc, instrs_of(action, part))?;
+    Ok(())
 }

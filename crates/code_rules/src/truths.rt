@@ -1,6 +1,6 @@
 //! How many registers may hold something else than 0 and 1.
 
-ghost use Rattle.std.specs.Prelude.{◌≡◌, IfOk, cond, drop, take};
+ghost use Rattle.std.specs.Prelude.{◌≡◌, ◌≤◌, IfOk, OnOk, cond, drop, length, take};
 ghost use Rattle.register_code.specs.Results.{are_truths};
 ghost use Rattle.code_rules.specs.Others as spec;
 
@@ -20,17 +20,32 @@ fn one_if(other: bool) -> usize
     if other { 1 } else { 0 }
 }
 
-/// Of each number of registers, how many of the first so many may hold something else than 0 and 1.
+/// Counts on from a number of registers, up to all of them: of each number, how many of the first so
+/// many may hold something else than 0 and 1.
+pub(crate) fn count_others(
+    table: &mut List<usize>,
+    ranges: &[Range],
+    from: usize,
+) -> Result<(), NoMemory>
+    requires within { from ≤ length ranges.now }
+    requires counted { spec.AreOthers (take from ranges.now) table.old }
+    ensures { OnOk result (spec.AreOthers ranges.now table.new) }
+{
+    let mut others = table.as_slice()[from];
+    'registers: for at in from..ranges.len() {
+        others += one_if(is_other(ranges[at]));
+        table.push(others)?;
+    }
+    Ok(())
+}
+
+/// The counts of each number of registers.
 pub(crate) fn others_of(alloc: Global, ranges: &[Range]) -> Result<List<usize>, NoMemory>
     ensures { IfOk result (spec.AreOthers ranges.now) }
 {
     let mut table = List::new(alloc);
     table.push(0)?;
-    let mut others: usize = 0;
-    'registers: for at in 0..ranges.len() {
-        others += one_if(is_other(ranges[at]));
-        table.push(others)?;
-    }
+    count_others(&mut table, ranges, 0)?;
     Ok(table)
 }
 

@@ -132,6 +132,7 @@ fn turn(core: &mut Core, first: u32)
 }
 
 /// One instruction, with these received values.
+#[inline(always)]
 pub fn move_on(core: &mut Core, instr: Instr, received: &[i64])
     requires can { CanMove received.now instr core.old }
     requires plain { is_plain instr ≡ true }

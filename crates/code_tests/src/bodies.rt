@@ -66,7 +66,7 @@ fn what_is_named_is_there(rt: HostRuntime) -> Result<(), Fail> {
             &[
                 Instr::Stop { timer: 0 },
                 Instr::Send {
-                    message: 1,
+                    message: 2,
                     first: 8,
                     count: 1,
                     to: 1,

@@ -8,4 +8,6 @@ mod bodies;
 #[cfg(test)]
 mod declared;
 #[cfg(test)]
+mod rules;
+#[cfg(test)]
 mod shapes;

@@ -8,7 +8,8 @@ use std::alloc::Global;
 use tap_base::{List, NoMemory, Text};
 
 /// What changes in the first process, `a`. Its registers are three cells within 0..9, one input within
-/// 0..5, and the temporaries; the second one has one action, which receives `m` from the first.
+/// 0..5, and the temporaries; the second one has one action, which receives `m` from the first. Nobody
+/// receives `n`, which has the same fields.
 #[derive(Clone, Copy)]
 pub struct Shape<'a> {
     pub name: &'a str,
@@ -81,7 +82,7 @@ fn receiving(alloc: Global, from: u16, body: &[Instr]) -> Result<CodeAction, NoM
     })
 }
 
-fn message(alloc: Global, shape: &Shape) -> Result<CodeMessage, NoMemory> {
+fn message(alloc: Global, name: &str, shape: &Shape) -> Result<CodeMessage, NoMemory> {
     let mut fields = List::new(alloc);
     fields.push(CodeField {
         width: shape.width,
@@ -92,7 +93,7 @@ fn message(alloc: Global, shape: &Shape) -> Result<CodeMessage, NoMemory> {
         fixed: None,
     })?;
     Ok(CodeMessage {
-        name: Text::copy_of(alloc, "m")?,
+        name: Text::copy_of(alloc, name)?,
         fields,
     })
 }
@@ -146,7 +147,8 @@ fn second(alloc: Global, name: &str) -> Result<CodeProcess, NoMemory> {
 
 pub fn code_of(alloc: Global, shape: &Shape) -> Result<Code, NoMemory> {
     let mut messages = List::new(alloc);
-    messages.push(message(alloc, shape)?)?;
+    messages.push(message(alloc, "m", shape)?)?;
+    messages.push(message(alloc, "n", shape)?)?;
     let mut processes = List::new(alloc);
     processes.push(first(alloc, shape)?)?;
     processes.push(second(alloc, shape.other)?)?;

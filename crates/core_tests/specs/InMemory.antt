@@ -13,7 +13,8 @@ use Rattle.tap_settings.specs.SettingText.{Assignment}
 use Rattle.link_trait.specs.Entries.{contents_of}
 use Rattle.link_trait.specs.MemorySink.{SinkValue}
 use Rattle.link_trait.specs.MemoryStore.{StoreValue}
-use Rattle.tapc_core.specs.Run.{Gives, IsRunFrom}
+use Rattle.tapc_core.specs.Run.{Gives}
+use Rattle.world_run.specs.RunsFrom.{IsRunFrom}
 use Rattle.timed_runs.specs.Delays.{IsTimeout, KeepsDelay}
 
 -- The bytes are the trace of labels that answer the events of a schedule, in what a text and settings give, with the draws

@@ -1,8 +1,10 @@
 //! What an action sends and chooses.
 
 ghost use Rattle.std.specs.Prelude.{◌≡◌, ◌<◌, [], ◌∷◌, ◌++◌, length, IfOk};
-ghost use Rattle.drawn_steps.specs.Boxes.{Boxed};
+ghost use Rattle.drawn_steps.specs.Boxes.{Boxed, IsNewOutbox};
 
+use crate::rooms::most_of_process;
+use action_code::Verified;
 use code_steps::push_spare;
 use std::alloc::Global;
 use std::marker::Model;
@@ -35,8 +37,24 @@ impl Model for Outbox {
 }
 
 impl Outbox {
-    /// Empty, with room for so many of each. No other call takes memory.
-    pub fn with_room(
+    /// Empty, with room for any one action of a process. No other call takes memory.
+    #[tactic(auto, using(crate::proofs::Roomy::is_new))]
+    pub fn new(alloc: Global, code: &Verified, process: u32) -> Result<Outbox, NoMemory>
+        requires { process < length code.now.processes }
+        ensures { IfOk result (λ o. IsNewOutbox code.now process o) }
+    {
+        let code = code.code();
+        let most = most_of_process(code, process);
+        Outbox::with_room(
+            alloc,
+            most.sends as usize,
+            most.values as usize,
+            most.choices as usize,
+        )
+    }
+
+    /// Empty, with room for so many of each.
+    fn with_room(
         alloc: Global,
         sends: usize,
         values: usize,
@@ -87,5 +105,21 @@ impl Outbox {
         ensures { self.new ≡ record self.old { chosen = self.old.chosen ++ choice ∷ [] } }
     {
         push_spare(&mut self.choices, choice);
+    }
+
+    /// Notes a value of a send, where there is room for it.
+    pub(crate) fn note_value(&mut self, value: i64)
+        requires { length self.old.values < self.old.values_room }
+        ensures { self.new ≡ record self.old { values = self.old.values ++ value ∷ [] } }
+    {
+        push_spare(&mut self.values, value);
+    }
+
+    /// Notes a send, where there is room for it.
+    pub(crate) fn note_send(&mut self, sent: Sent)
+        requires { length self.old.sent < self.old.sends_room }
+        ensures { self.new ≡ record self.old { sent = self.old.sent ++ sent ∷ [] } }
+    {
+        push_spare(&mut self.sends, sent);
     }
 }

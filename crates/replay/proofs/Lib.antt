@@ -1,6 +1,7 @@
 pub mod Ahead
 pub mod Fronts
 pub mod Keywords
+pub mod NamesOfSystems
 pub mod OneVerdict
 pub mod OneWay
 pub mod Progressed

@@ -38,13 +38,13 @@ one_behind m = refl
 
 module _ (names : List (List ℕ)) where
   -- the lines of so many events
-  abbrev lines : ℕ → Making → List ℕ
+  abbrev pub lines : ℕ → Making → List ℕ
   lines n m = events_text names (events_from n m)
 
   text_joined : (es fs : List Event) → events_text names (es ++ fs) ≡ events_text names es ++ events_text names fs
   text_joined es fs = ap (λ ls. flat_map (λ l. l ++ 10 ∷ []) ls) (map-append (event_line names) es fs) ∙ flat_map-append (λ l. l ++ 10 ∷ []) (map (event_line names) es) (map (event_line names) fs)
 
-  lines_joined : (n k : ℕ) (m : Making) → lines (n + k) m ≡ lines n m ++ lines k (behind_events n m)
+  pub lines_joined : (n k : ℕ) (m : Making) → lines (n + k) m ≡ lines n m ++ lines k (behind_events n m)
   lines_joined n k m = ap (events_text names) (goes_on n k m) ∙ text_joined (events_from n m) (events_from k (behind_events n m))
 
   one_line : (m : Making) → lines 1 m ≡ event_line names (next_event m) ++ 10 ∷ []

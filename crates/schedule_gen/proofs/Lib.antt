@@ -1,8 +1,8 @@
 mod Away
 mod Faults
-mod Gathered
-mod Goes
-mod Listed
+pub mod Gathered
+pub mod Goes
+pub mod Listed
 mod OneSchedule
 mod Ranges
 mod Sends

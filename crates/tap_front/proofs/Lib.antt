@@ -10,5 +10,6 @@ pub mod ResolvedWires
 pub mod Runs
 mod TokenWords
 pub mod TreesRead
+pub mod VarNames
 pub mod Wholes
 mod given

@@ -42,3 +42,7 @@ pub record Accepted (text : List ℕ) (system : System) : Type 0 where
 -- The names of processes tell them apart in the words of a line: each is a word, and of one process alone.
 abbrev pub TellsApart : System → Type 0
 TellsApart system = let names = map (λ p. p.name) system.processes in Each IsWord names × AreDistinct names
+
+-- In each process, the names of its variables tell these apart likewise.
+abbrev pub VarsTellApart : System → Type 0
+VarsTellApart system = Each (λ p. let names = map (λ v. v.name) p.vars in Each IsWord names × AreDistinct names) system.processes

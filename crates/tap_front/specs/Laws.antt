@@ -12,7 +12,7 @@ use Rattle.tap_printer.specs.Canonical.{canonical}
 use Rattle.tap_printer.specs.PlacesAside.{SameTree}
 use Rattle.tap_base.specs.Resolved.{IsResolved}
 use Rattle.width_check.specs.IsChecked.{IsChecked}
-use Rattle.tap_front.specs.Accepting.{Accepted, IsReadAs, ResolvesTo, TellsApart, longest_text}
+use Rattle.tap_front.specs.Accepting.{Accepted, IsReadAs, ResolvesTo, TellsApart, VarsTellApart, longest_text}
 use Rattle.tap_front.specs.Lines.{offence_code}
 use Rattle.tap_front.specs.Offences.{Misspells, Offends}
 use Rattle.tap_front.specs.declared.offence.Offence.{Offence}
@@ -41,6 +41,10 @@ PrintedAgain = (text : List ℕ) (tree : Ast) → IsReadAs text tree → length 
 -- In a system that a text is accepted as, the names of processes tell them apart.
 abbrev pub NamesTellApart : Type 0
 NamesTellApart = (text : List ℕ) (system : System) → Accepted text system → TellsApart system
+
+-- And the names of the variables of each process tell these apart.
+abbrev pub VarNamesTellApart : Type 0
+VarNamesTellApart = (text : List ℕ) (system : System) → Accepted text system → VarsTellApart system
 
 -- A system that a text is accepted as is checked: it is resolved, and has no offence of widths, costs and sends.
 abbrev pub AcceptedIsChecked : Type 0

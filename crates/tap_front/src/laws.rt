@@ -1,6 +1,6 @@
 //! What the definitions of texts promise by themselves.
 
-ghost use Rattle.tap_front.specs.Laws.{AcceptedIsChecked, AcceptedIsSafe, AcceptedRuns, AcceptedSpellingsMean, NamesTellApart, NeverRefused, OneOffence, OneSystemOfText, OneTreeOfText, PrintedAgain, ResolvedIsWhole};
+ghost use Rattle.tap_front.specs.Laws.{AcceptedIsChecked, AcceptedIsSafe, AcceptedRuns, AcceptedSpellingsMean, NamesTellApart, NeverRefused, OneOffence, OneSystemOfText, OneTreeOfText, PrintedAgain, ResolvedIsWhole, VarNamesTellApart};
 
 /// A text that is read as a tree has no offence that keeps it from that, and one that is accepted has none.
 pub fn never_refused()
@@ -27,6 +27,12 @@ pub fn printed_again()
 /// one.
 pub fn names_tell_apart()
     ensures { NamesTellApart }
+{}
+
+/// In a system that a text is accepted as, the names of the variables of a process have no space and no line feed, and
+/// no two are one.
+pub fn var_names_tell_apart()
+    ensures { VarNamesTellApart }
 {}
 
 /// A system that a text is accepted as is checked: it is resolved, and has no offence of widths, costs and sends.

@@ -13,6 +13,9 @@ use Rattle.tapc_core.specs.declared.status.Status.{Status}
 use Rattle.tapc_core.specs.declared.status.Status.TheVariants.{Done, Refused, Usage, BadSchedule, ReadFault, WriteFault, LinkFault, NoMemory, NotARun, WorldFull}
 use Rattle.tapc_core.specs.inner.Closing.{Closes, ClosesOr, failed, put}
 use Rattle.tapc_core.specs.inner.FileFaults.{GivesUp, WasRead}
+use Rattle.tapc_core.specs.inner.StartFaults.{StartsNot, WasBegun}
+use Rattle.tapc_core.specs.declared.start.StartFault.{StartFault}
+use Rattle.tapc_core.specs.declared.start.StartFault.TheVariants as start
 
 -- ---- what is left
 
@@ -53,6 +56,13 @@ given_up_found reads contents (file.Refused o) before now r spared found (inl c)
 given_up_found reads contents (file.Refused o) before now r spared found (inr c) = closed_found reads contents NoMemory _ before now r spared (none_found (reads NoMemory) contents spared.no_memory) c
 given_up_found reads contents file.ReadFault before now r spared found c = closed_found reads contents ReadFault _ before now r spared (none_found (reads ReadFault) contents spared.unread) c
 given_up_found reads contents file.NoMemory before now r spared found c = closed_found reads contents NoMemory _ before now r spared (none_found (reads NoMemory) contents spared.no_memory) c
+
+-- a command that had nothing to run
+pub no_start_found : (reads : Status → List (List ℕ)) (contents : Contents) (fault : StartFault) (before now : Option (List ℕ)) (r : Status)
+    → AreSpared reads → (WasBegun {T = Unit {0}} (Err fault) → AreFound (reads Refused) contents) → StartsNot fault before now r → AreFound (reads r) contents
+no_start_found reads contents (start.Misset m) before now r spared found h = closed_or_found reads contents Refused _ _ before now r spared (found tt) h
+no_start_found reads contents (start.File f) before now r spared found h =
+    given_up_found reads contents f before now r spared (λ o e. found (subst (λ x. WasBegun {T = Unit {0}} (Err (start.File x))) (sym e) tt)) h
 
 -- a schedule that was played
 pub played_found : (system schedule : List ℕ) (contents : Contents) (r : Status) → IsTold (contents system) → IsTold (contents schedule) → IsPlayed r

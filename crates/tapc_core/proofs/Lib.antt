@@ -2,10 +2,14 @@ pub mod Found
 pub mod FrontRead
 pub mod Fronts
 pub mod GivenTexts
+pub mod MadeLines
 pub mod Outputs
 pub mod SeedTexts
 pub mod SettingLists
 pub mod SettingWords
+pub mod Soaked
+pub mod Starts
 pub mod Steps
 pub mod Sure
 pub mod TreesRead
+pub mod Verdicts

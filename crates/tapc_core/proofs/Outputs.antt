@@ -19,7 +19,7 @@ use Rattle.run_text.proofs.RunLines.{whole_trace}
 use Rattle.tap_front.specs.Lines.{refused_line}
 use Rattle.tap_front.specs.declared.offence.Offence.{Offence}
 use Rattle.tapc_core.specs.Lines.{bad_line, full_line, no_memory_line, read_fault_line}
-use Rattle.tapc_core.specs.Run.{IsRunFrom, Played, Task}
+use Rattle.tapc_core.specs.Run.{Played, Task}
 use Rattle.tapc_core.specs.Written.{IsWritten, Writes}
 use Rattle.tapc_core.specs.commands.World.{IsBadTrace, IsFrontOfTrace, IsFullTrace, IsPlayed, IsTrace, IsUnfinished, OfWorld}
 use Rattle.tapc_core.specs.declared.files.FileFault.{FileFault}
@@ -28,13 +28,20 @@ use Rattle.tapc_core.specs.declared.status.Status.{Status}
 use Rattle.tapc_core.specs.declared.status.Status.TheVariants.{Done, Refused, Usage, BadSchedule, ReadFault, WriteFault, LinkFault, NoMemory, NotARun, WorldFull}
 use Rattle.tapc_core.specs.inner.Closing.{Closes, ClosesOr, failed, put}
 use Rattle.tapc_core.specs.inner.FileFaults.{GivesUp}
+use Rattle.tap_settings.specs.Lines.{refused_setting_line}
+use Rattle.tap_settings.specs.declared.refusals.SettingRefusal.{SettingRefusal}
+use Rattle.tapc_core.specs.declared.start.StartFault.{StartFault}
+use Rattle.tapc_core.specs.declared.start.StartFault.TheVariants as start
+use Rattle.tapc_core.specs.inner.StartFaults.{StartsNot}
 use Rattle.tapc_core.specs.inner.Playing.{AreOf, Broken, IsNext, Passed, Progress}
 use Rattle.tapc_core.proofs.GivenTexts.{if_some}
-use Rattle.tapc_core.proofs.Steps.{answered, appends_more, appends_none}
+use Rattle.tapc_core.proofs.Steps.{appends_more, appends_none}
 use Rattle.exact_choice.specs.Runnable.{IsRunnable}
 use Rattle.timed_runs.proofs.DelaysKept.{systems_keep}
+use Rattle.world_run.specs.RunsFrom.{IsRunFrom}
 use Rattle.world_run.specs.Served.{full_from}
 use Rattle.world_run.proofs.Lines.{lines_append}
+use Rattle.world_run.proofs.RunsOn.{answered}
 
 -- ---- closing
 
@@ -83,6 +90,12 @@ module _ (Kind : Status → List ℕ → Type 0) where
   gives_up (file.Refused o) r before now refused unread none (inr h) = closes_alone none h
   gives_up file.ReadFault r before now refused unread none h = closes_alone unread h
   gives_up file.NoMemory r before now refused unread none h = closes_alone none h
+
+-- a command that has nothing to run writes one line
+pub starts_not : (Kind : Status → List ℕ → Type 0) (fault : StartFault) (r : Status) (before now : Option (List ℕ)) → ((o : Offence) → fault ≡ start.File (file.Refused o) → Kind Refused (refused_line o))
+    → ((m : SettingRefusal) → fault ≡ start.Misset m → Kind Refused (refused_setting_line m)) → Kind ReadFault read_fault_line → Kind NoMemory no_memory_line → StartsNot fault before now r → Writes Kind r before now
+starts_not Kind (start.Misset m) r before now refused misset unread none h = closes_or Kind (misset m refl) none h
+starts_not Kind (start.File f) r before now refused misset unread none h = gives_up Kind f r before now (λ o e. refused o (ap start.File e)) unread none h
 
 -- ---- schedules
 

@@ -1,9 +1,7 @@
 -- A word is the seed that it spells, and is none where it spells none.
-use Rattle.std.proofs.Common.{◌≡◌, ◌<◌, ◌^◌, ◌==◌, ◌&&◌, ℕ, Bool, true, false, List, [], ◌∷◌, ◌++◌, Option, Some, None, MatchOption, length, drop, get_or, refl, ap, sym, subst, ◌∙◌, arith, ne_eqb, ◌+◌}
+use Rattle.std.proofs.Common.{◌≡◌, ◌<◌, ◌^◌, ◌&&◌, ℕ, true, List, [], ◌∷◌, ◌++◌, Option, Some, None, MatchOption, length, drop, get_or, refl, ap, sym, subst, ◌∙◌, arith, ne_eqb, ◌+◌}
 use Rattle.std.specs.Prelude.{nat_lt}
-use Rattle.std.specs.Borrow.{Bor}
 use Rattle.std.specs.Fmt.{decimal}
-use Rattle.std.specs.Option.{option_map}
 use Rattle.std.specs.Str.{bytes_eq}
 use Rattle.std.specs.Str.Parse.{digits_value}
 use Rattle.std.proofs.lemmas.Bool.Decides.{nat_tests}

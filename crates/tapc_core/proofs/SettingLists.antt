@@ -1,5 +1,5 @@
 -- Lists of words that are settings.
-use Rattle.std.proofs.Common.{◌≡◌, ◌+◌, ◌<◌, ℕ, true, false, List, [], ◌∷◌, ◌++◌, Option, Some, None, MatchOption, is_some, Result, Ok, Err, OnOk, length, drop, get_or, codes, refl, ap, sym, ◌∙◌, append_assoc, append-nil}
+use Rattle.std.proofs.Common.{◌≡◌, ◌+◌, ◌<◌, ℕ, List, [], ◌∷◌, ◌++◌, Option, Some, None, MatchOption, is_some, Result, Ok, Err, OnOk, length, drop, get_or, ap, sym, ◌∙◌, append_assoc, append-nil}
 use Rattle.std.proofs.lemmas.List.{map-append}
 use Rattle.tap_base.proofs.ListFacts.{cut_at_item}
 use Rattle.tap_settings.specs.SettingText.{Assignment, IsNoSetting, SpellsSetting, assignment_of, assignments_of}

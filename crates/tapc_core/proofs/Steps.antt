@@ -1,35 +1,25 @@
 -- What was put and written of a run, one event after another.
-use Rattle.std.proofs.Common.{◌≡◌, ◌<◌, ◌≤◌, ◌+◌, inl, inr, ℕ, List, [], ◌∷◌, ◌++◌, map, length, Option, Some, None, refl, ap, sym, subst, ◌∙◌, arith, append_assoc, append-nil, length-append, lit≤}
+use Rattle.std.proofs.Common.{◌≡◌, ◌<◌, ◌≤◌, ◌+◌, inl, inr, ℕ, List, [], ◌∷◌, ◌++◌, map, length, Option, Some, None, refl, ap, sym, ◌∙◌, arith, append_assoc, append-nil, length-append, lit≤}
 use Rattle.std.proofs.lemmas.Grind.{flat_map-append}
 use Rattle.std.proofs.lemmas.List.{map-append}
 use Rattle.std.specs.Io.KnownBytes.{Appends}
 use Rattle.tap_base.specs.Lists.{Each}
-use Rattle.tap_base.specs.Option.{◌>>=◌}
-use Rattle.abstract_run.specs.Answers.{Answers, Serves}
 use Rattle.abstract_run.specs.CellCount.{cells_in}
 use Rattle.tap_exec.specs.Semantics.{Semantics}
-use Rattle.abstract_run.specs.Run.{state_after}
-use Rattle.abstract_run.specs.Step.{step}
 use Rattle.abstract_run.specs.declared.label.Event.{Event}
-use Rattle.abstract_run.specs.declared.label.Label.{Label}
 use Rattle.abstract_run.specs.declared.state.State.{State}
 use Rattle.run_text.specs.ScheduleText.{AreListed, HasLine, IsFirstLine, IsLineOf, event_line, events_text, most_events}
 use Rattle.run_text.specs.TraceText.{lines_text, names_in}
 use Rattle.tapc_core.specs.inner.Playing.{Passed, Progress}
-use Rattle.tapc_core.specs.Run.{AnswersInRoom}
-use Rattle.rand_pcg.specs.Lcg.{Lcg}
-use Rattle.guard_scheduler.specs.Cursor.{Cursor}
-use Rattle.exact_choice.specs.Choice.{AllChoose, ChoosesInTurn, opening_cursors}
-use Rattle.exact_choice.specs.Draws.{AllDraw, DrawsInOrder, opening_generators}
-use Rattle.exact_choice.specs.Moments.{moments}
-use Rattle.exact_choice.specs.Rejects.{AllReject, RejectsInOrder, opening_errors}
-use Rattle.exact_choice.proofs.Drawn.{all_draw_joined}
-use Rattle.exact_choice.proofs.Joined.{all_joined, moments_joined}
-use Rattle.exact_choice.proofs.RejectsJoined.{all_reject_joined}
+use Rattle.exact_choice.specs.Choice.{opening_cursors}
+use Rattle.exact_choice.specs.Draws.{opening_generators}
+use Rattle.exact_choice.specs.Rejects.{opening_errors}
 use Rattle.world_run.specs.declared.course.Course.{Course}
+use Rattle.world_run.specs.RunsFrom.{HasRun}
 use Rattle.world_run.specs.Served.{Served, full_from}
 use Rattle.run_text.proofs.RunLines.{run_lines_more}
 use Rattle.world_run.proofs.Lines.{lines_append}
+use Rattle.world_run.proofs.RunsOn.{answered, none_run, runs_on}
 
 -- ---- bytes
 
@@ -89,76 +79,6 @@ first_line_taken text line rest some (inl h) = omega (arith, ap length h, length
 first_line_taken [] line rest some (inr h) = absurd (some refl)
 first_line_taken (x ∷ xs) line rest some (inr h) = omega (arith, ap length h.1)
 
--- ---- the run
-
-pub answers_more : (m : Semantics) (s t u : State) (es : List Event) (e : Event) (labels more : List Label)
-    → Answers m s es labels t → Serves m t e more u → Answers m s (es ++ e ∷ []) (labels ++ more) u
-answers_more m s t u [] e labels more h served =
-    (more, [], u, ap (λ xs. xs ++ more) h.0 ∙ sym (append-nil more), subst (λ x. Serves m x e more u) h.1 served, (refl, refl))
-answers_more m s t u (d ∷ es) e labels more h served =
-    (h.0, h.1 ++ more, h.2, ap (λ xs. xs ++ more) h.3 ∙ append_assoc h.0 h.1 more, h.4, answers_more m h.2 t u es e h.1 more h.5 served)
-
--- one more event, which was reached with room
-pub in_room_more : (m : Semantics) (s t u : State) (es : List Event) (e : Event) (labels more : List Label)
-    → AnswersInRoom m s es labels t → cells_in t ≤ full_from → Serves m t e more u → AnswersInRoom m s (es ++ e ∷ []) (labels ++ more) u
-in_room_more m s t u [] e labels more h room served = (
-  subst (λ (x : State). cells_in x ≤ full_from) h.1 room,
-  (more, [], u, ap (λ xs. xs ++ more) h.0 ∙ sym (append-nil more), subst (λ x. Serves m x e more u) h.1 served, (refl, refl)),
-)
-in_room_more m s t u (d ∷ es) e labels more h room served =
-    let k = h.1 in
-    (h.0, (k.0, k.1 ++ more, k.2, ap (λ xs. xs ++ more) k.3 ∙ append_assoc k.0 k.1 more, k.4, in_room_more m k.2 t u es e k.1 more k.5 room served))
-
-go_on : {A B : Type 0} (o : Option A) (f g : A → Option B) (t u : B) → ((a : A) → f a ≡ Some t → g a ≡ Some u) → (o >>= f) ≡ Some t → (o >>= g) ≡ Some u
-go_on None f g t u go h = cc
-go_on (Some a) f g t u go h = go a h
-
-after_one : {A B : Type 0} (o : Option (A × B)) (f : A → Option A) (t u : A) → (o >>= λ a. f a.0) ≡ Some u → (o >>= λ a. Some a.0) ≡ Some t → f t ≡ Some u
-after_one None f t u h k = cc
-after_one (Some a) f t u h k = cc
-
-pub state_after_more : (m : Semantics) (s t u : State) (xs ys : List Label) → state_after m s xs ≡ Some t → state_after m t ys ≡ Some u → state_after m s (xs ++ ys) ≡ Some u
-state_after_more m s t u [] ys h k = let e : s ≡ t = cc in subst (λ x. state_after m x ys ≡ Some u) (sym e) k
-state_after_more m s t u (l ∷ xs) ys h k =
-    go_on (step m s l) (λ a. state_after m a.0 xs) (λ a. state_after m a.0 (xs ++ ys)) t u (λ a e. state_after_more m a.0 t u xs ys e k) h
-
--- what is chosen in a run and what is chosen from its end on
-chosen_more : (m : Semantics) (s t : State) (xs ys : List Label) (later : List Cursor) → state_after m s xs ≡ Some t → (x : ChoosesInTurn m s xs) → AllChoose m (moments m t ys) x.cursors later
-    → (y : ChoosesInTurn m s (xs ++ ys)) × (y.cursors ≡ later)
-chosen_more m s t xs ys later h x more = (
-  record {
-    cursors = later;
-    all = subst (λ ms. AllChoose m ms (opening_cursors m) later) (sym (moments_joined m s t xs ys h)) (all_joined m (moments m s xs) (moments m t ys) (opening_cursors m) x.cursors later x.all more);
-  },
-  refl,
-)
-
--- what is rejected in a run and what is rejected from its end on
-rejected_more : (m : Semantics) (s t : State) (xs ys : List Label) (later : List (List ℕ)) → state_after m s xs ≡ Some t → (x : RejectsInOrder m s xs) → AllReject (moments m t ys) x.errors later
-    → (y : RejectsInOrder m s (xs ++ ys)) × (y.errors ≡ later)
-rejected_more m s t xs ys later h x more = (
-  record {
-    errors = later;
-    all = subst (λ ms. AllReject ms (opening_errors m) later) (sym (moments_joined m s t xs ys h)) (all_reject_joined (moments m s xs) (moments m t ys) (opening_errors m) x.errors later x.all more);
-  },
-  refl,
-)
-
--- what is drawn in a run and what is drawn from its end on
-drawn_more : (seed : ℕ) (m : Semantics) (s t : State) (xs ys : List Label) (later : List Lcg) → state_after m s xs ≡ Some t → (x : DrawsInOrder seed m s xs) → AllDraw m (moments m t ys) x.generators later
-    → (y : DrawsInOrder seed m s (xs ++ ys)) × (y.generators ≡ later)
-drawn_more seed m s t xs ys later h x more = (
-  record {
-    generators = later;
-    all = subst (λ ms. AllDraw m ms (opening_generators seed m) later) (sym (moments_joined m s t xs ys h)) (all_draw_joined m (moments m s xs) (moments m t ys) (opening_generators seed m) x.generators later x.all more);
-  },
-  refl,
-)
-
-pub answered : (m : Semantics) (s t : State) (es : List Event) (labels : List Label) → Answers m s es labels t → state_after m s labels ≡ Some t
-answered m s t [] labels h = ap (state_after m s) h.0 ∙ ap Some (sym h.1)
-answered m s t (e ∷ es) labels h = ap (state_after m s) h.3 ∙ state_after_more m s h.2 t h.0 h.1 h.4.ran (answered m h.2 t es h.1 h.5)
-
 -- ---- progress
 
 each_and : {A : Type 0} (P : A → Type 0) (xs ys : List A) → Each P xs → Each P ys → Each P (xs ++ ys)
@@ -172,47 +92,44 @@ pub record Goes (seed : ℕ) (semantics : Semantics) (start : State) (schedule r
   pub wait : progress.run.rejected.errors ≡ course.errors
   pub words : progress.run.drawn.generators ≡ course.generators
 
+-- the run so far
+has_run : {seed : ℕ} {semantics : Semantics} {start : State} {schedule rest : List ℕ} {number : ℕ} {course : Course} {before now : Option (List ℕ)} {page : List ℕ}
+    → (g : Goes seed semantics start schedule rest number course before now page) → HasRun seed semantics start g.progress.events g.progress.labels course
+has_run g = record { run = g.progress.run; cursors = g.stand; errors = g.wait; generators = g.words }
+
 pub goes_start : (seed : ℕ) (semantics : Semantics) (course : Course) (schedule : List ℕ) (before : Option (List ℕ)) → course.turnstiles ≡ opening_cursors semantics → course.errors ≡ opening_errors semantics → course.generators ≡ opening_generators seed semantics
     → Goes seed semantics course.state schedule schedule 1 course before before []
-goes_start seed semantics course schedule before stand wait words = record {
-  progress = record {
-    events = [];
-    listed = record { each = tt; few = lit≤ tt };
-    passed = inl refl;
-    count = refl;
-    labels = [];
-    run = record {
-      answers = (refl, refl);
-      in_room = (refl, refl);
-      chosen = record { cursors = opening_cursors semantics; all = refl };
-      rejected = record { errors = opening_errors semantics; all = refl };
-      drawn = record { generators = opening_generators seed semantics; all = refl };
-    };
-    sized = tt;
-    put = [];
-    told = appends_none before;
-    lines = [];
-    shown = refl;
-    is = refl;
-  };
-  stand = sym stand;
-  wait = sym wait;
-  words = sym words;
-}
+goes_start seed semantics course schedule before stand wait words =
+    let none = none_run seed semantics course stand wait words in
+    record {
+      progress = record {
+        events = [];
+        listed = record { each = tt; few = lit≤ tt };
+        passed = inl refl;
+        count = refl;
+        labels = [];
+        run = none.run;
+        sized = tt;
+        put = [];
+        told = appends_none before;
+        lines = [];
+        shown = refl;
+        is = refl;
+      };
+      stand = none.cursors;
+      wait = none.errors;
+      words = none.generators;
+    }
 
 pub goes_more : {seed : ℕ} {semantics : Semantics} {start : State} {schedule rest line tail : List ℕ} {number : ℕ} {old new : Course} {before now : Option (List ℕ)} {page after : List ℕ} {e : Event}
     → number ≤ most_events → Goes seed semantics start schedule rest number old before now page → (rest ≡ [] → ⊥) → IsFirstLine rest line tail → IsLineOf (names_in semantics) line e
     → cells_in old.state ≤ full_from → Served semantics e old new page after → Goes seed semantics start schedule tail (number + 1) new before now after
-goes_more {seed = seed} {semantics = semantics} {number = number} {old = old} {new = new} {page = page} {after = after} {e = e} few g some first spells room served =
+goes_more {seed = seed} {semantics = semantics} {start = start} {number = number} {old = old} {new = new} {page = page} {after = after} {e = e} few g some first spells room served =
     let p = g.progress in
-    let s = old.state in
-    let t = new.state in
     let did = served.did in
-    let ran = answered semantics _ s p.events p.labels p.run.answers in
+    let ran = answered semantics start old.state p.events p.labels p.run.answers in
     let wrote = did.wrote in
-    let more = chosen_more semantics _ s p.labels served.labels new.turnstiles ran p.run.chosen (subst (λ cs. AllChoose semantics (moments semantics s served.labels) cs new.turnstiles) (sym g.stand) did.chosen) in
-    let fewer = rejected_more semantics _ s p.labels served.labels new.errors ran p.run.rejected (subst (λ es. AllReject (moments semantics s served.labels) es new.errors) (sym g.wait) did.rejected) in
-    let further = drawn_more seed semantics _ s p.labels served.labels new.generators ran p.run.drawn (subst (λ gs. AllDraw semantics (moments semantics s served.labels) gs new.generators) (sym g.words) did.drawn) in
+    let more = runs_on (has_run g) room served in
     record {
       progress = record {
         events = p.events ++ e ∷ [];
@@ -220,23 +137,17 @@ goes_more {seed = seed} {semantics = semantics} {number = number} {old = old} {n
         passed = passed_more (names_in semantics) _ p.events _ _ _ e some p.passed first spells.1;
         count = omega (arith, p.count, length-append p.events (e ∷ []));
         labels = p.labels ++ served.labels;
-        run = record {
-          answers = answers_more semantics _ s t p.events e p.labels served.labels p.run.answers served.serves;
-          in_room = in_room_more semantics _ s t p.events e p.labels served.labels p.run.in_room room served.serves;
-          chosen = more.0;
-          rejected = fewer.0;
-          drawn = further.0;
-        };
+        run = more.run;
         sized = each_and _ p.labels served.labels p.sized did.sized;
         put = p.put;
         told = p.told;
         lines = p.lines ++ wrote.lines;
-        shown = run_lines_more semantics _ s p.labels served.labels p.lines wrote.lines ran p.shown wrote.shown;
+        shown = run_lines_more semantics start old.state p.labels served.labels p.lines wrote.lines ran p.shown wrote.shown;
         is = lines_append p.lines wrote.lines ∙ ap (λ z. z ++ lines_text wrote.lines) p.is ∙ append_assoc p.put page (lines_text wrote.lines) ∙ ap (λ z. p.put ++ z) (sym wrote.told);
       };
-      stand = more.1;
-      wait = fewer.1;
-      words = further.1;
+      stand = more.cursors;
+      wait = more.errors;
+      words = more.generators;
     }
 
 -- the front of the page was put

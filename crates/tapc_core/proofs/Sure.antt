@@ -1,11 +1,16 @@
 -- Where no count of faults rose, what the files hold and the settings decide the status, but for want of memory.
-use Rattle.std.proofs.Common.{◌≡◌, ◌⊎◌, inl, inr, ℕ, List, Option, Some, None, IfSome, refl, ap, sym, subst, ◌∙◌}
+use Rattle.std.proofs.Common.{◌≡◌, inl, inr, ℕ, List, Option, Some, None, Result, IfSome, refl, ap, sym, subst, ◌∙◌}
 use Rattle.std.specs.Prelude.{IsSome}
-use Rattle.std.proofs.lemmas.Option.{none-some}
+use Rattle.std.proofs.lemmas.Option.{none-some, same_Some}
 use Rattle.tap_base.specs.declared.ast.Ast.{Ast}
 use Rattle.tap_base.specs.declared.system.Inputs.{Inputs}
 use Rattle.tap_base.specs.declared.system.System.{System}
 use Rattle.tap_exec.specs.Semantics.{Semantics, semantics_of}
+use Rattle.abstract_run.specs.Opening.{opening_state}
+use Rattle.replay.specs.Laws.{Says}
+use Rattle.replay.specs.Traces.{Judges}
+use Rattle.replay.specs.declared.fault.ReplayFault.{ReplayFault}
+use Rattle.replay.proofs.OneVerdict.{one_verdict}
 use Rattle.run_text.specs.ScheduleText.{GoesOnAfter, SpellsSchedule}
 use Rattle.run_text.specs.TraceText.{names_in}
 use Rattle.run_text.proofs.ScheduleBoth.{never_both}
@@ -22,19 +27,23 @@ use Rattle.tap_settings.specs.declared.refusals.SettingRefusal.{SettingRefusal}
 use Rattle.tap_settings.proofs.Given.{given_or_refused}
 use Rattle.tapc_core.specs.Causes.{HasSinkCause, HasStoreCause, IsSure}
 use Rattle.tapc_core.specs.Command.{Contents}
-use Rattle.tapc_core.specs.Run.{Gives, Played, Task}
-use Rattle.tapc_core.specs.Words.{Asked, check, print, world}
+use Rattle.tapc_core.specs.Run.{FileGives, Gives, Played, Task}
+use Rattle.tapc_core.specs.Words.{Asked, check, make, print, replay, soak, world}
 use Rattle.tapc_core.specs.Written.{IsWritten, Writes}
 use Rattle.tapc_core.specs.commands.All.{command_for}
 use Rattle.tapc_core.specs.commands.Check.{CheckIsSure, OfCheck, accepts, refuses as check_refuses}
+use Rattle.tapc_core.specs.commands.Make.{MakeIsSure, OfMake, Order, makes, refuses as make_refuses}
 use Rattle.tapc_core.specs.commands.NoCommand.{NoneIsSure, OfNone, usage}
 use Rattle.tapc_core.specs.commands.Print.{OfPrint, PrintIsSure, prints, refuses as print_refuses}
+use Rattle.tapc_core.specs.commands.Replay.{HasVerdict, Judged, OfReplay, ReplayIsSure, Trial, breaks, missets as replay_missets, refuses as replay_refuses, runs, strays, trial_of}
+use Rattle.tapc_core.specs.commands.Settings.{HasInputs, HasMisset, IsUnset}
+use Rattle.tapc_core.specs.commands.Soak.{Load, OfSoak, SoakIsSure, load_of, missets as soak_missets, refuses as soak_refuses, soaks}
 use Rattle.tapc_core.specs.commands.Text.{HasOffence, HasSystem, HasTree, IsRefusal}
-use Rattle.tapc_core.specs.commands.World.{HasMisset, HasSchedule, IsBadTrace, IsMisset, IsTrace, OfWorld, WorldIsSure, task_of, missets, plays, refuses, stops}
+use Rattle.tapc_core.specs.commands.World.{HasSchedule, IsBadTrace, IsTrace, OfWorld, WorldIsSure, task_of, missets, plays, refuses, stops}
 use Rattle.tapc_core.specs.declared.status.Status.{Status}
 use Rattle.tapc_core.specs.declared.status.Status.TheVariants.{Done, Refused, Usage, BadSchedule, ReadFault, WriteFault, LinkFault, NoMemory, NotARun, WorldFull}
-use Rattle.tapc_core.proofs.Fronts.{names_apart}
-use Rattle.tapc_core.proofs.GivenTexts.{held_told, where_told}
+use Rattle.tapc_core.proofs.Fronts.{names_apart, told_names}
+use Rattle.tapc_core.proofs.GivenTexts.{held_told, set_up_gives, where_told}
 
 told : {A : Type 0} (o : Option A) (x : A) (P : A → Type 0) → o ≡ Some x → IfSome o P → P x
 told o x P is h = subst (λ y. IfSome y P) is h
@@ -74,10 +83,6 @@ not_accepted text system b h = never_refused.1 b.text system b.offence (told tex
 given_here : (task : Task) (text : List ℕ) (r : Played task) → task.text ≡ Some text → Gives text task.settings r.semantics r.inputs
 given_here task text r is = told task.text text (λ t. Gives t task.settings r.semantics r.inputs) is (where_told task.text task.settings r.semantics r.inputs r.gives)
 
-not_given : (task : Task) → HasOffence Offends task.text → Played task → ⊥
-not_given task b r =
-    let g = given_here task b.text r b.text_is in never_refused.1 b.text g.system b.offence g.runs b.first
-
 not_read : (text : Option (List ℕ)) (tree : Ast) → HasOffence IsMisspelling text → IfSome text (λ t. IsReadAs t tree) → ⊥
 not_read text tree b h = no_misspelling b.text tree b.offence (told text b.text (λ t. IsReadAs t tree) b.text_is h) b.first
 
@@ -91,7 +96,7 @@ given_same text settings system m inputs a g = g.says ∙ ap semantics_of (one_s
 not_both : (task : Task) (bytes : List ℕ) → HasSchedule SpellsSchedule task → IsBadTrace task bytes → ⊥
 not_both task bytes v h =
     let r = h.run in
-    let t = v.text in
+    let t = v.start.text in
     let same = given_same t.text task.settings t.system r.semantics r.inputs t.taken (given_here task t.text r t.text_is) in
     let goes_on = told task.schedule v.schedule (λ text. GoesOnAfter (names_in r.semantics) text r.events) v.schedule_is h.schedule in
     never_both (names_in (semantics_of t.system)) v.schedule v.events r.events (names_apart t.text t.system t.taken) v.kind
@@ -101,7 +106,7 @@ not_both task bytes v h =
 not_ended : (task : Task) (bytes : List ℕ) → HasSchedule GoesOnAfter task → IsTrace task bytes → ⊥
 not_ended task bytes v h =
     let r = h.run in
-    let t = v.text in
+    let t = v.start.text in
     let same = given_same t.text task.settings t.system r.semantics r.inputs t.taken (given_here task t.text r t.text_is) in
     let spells = told task.schedule v.schedule (λ text. SpellsSchedule (names_in r.semantics) text r.events) v.schedule_is h.schedule in
     never_both (names_in (semantics_of t.system)) v.schedule r.events v.events (names_apart t.text t.system t.taken)
@@ -115,21 +120,45 @@ not_both_set system settings inputs r given offends =
     let none = (given_or_refused system settings).1 (subst IsSome (sym given) refl) in none-some r (sym (ap first none) ∙ offends)
 
 -- where a text can be run and the settings give its system inputs, neither is refused
-not_world_refused : (task : Task) (bytes : List ℕ) (v : HasSystem Accepted task.text) (inputs : Inputs) → inputs_given v.system task.settings ≡ Some inputs → IsRefusal Offends task.text bytes ⊎ IsMisset task bytes → ⊥
-not_world_refused task bytes v inputs given (inl h) = not_refused task.text bytes v h
-not_world_refused task bytes v inputs given (inr h) =
+not_unset : (text : Option (List ℕ)) (settings : List Assignment) (bytes : List ℕ) → HasInputs text settings → IsUnset text settings bytes → ⊥
+not_unset text settings bytes v (inl h) = not_refused text bytes v.text h
+not_unset text settings bytes v (inr h) =
+    let t = v.text in
     let o = h.offence in
-    let held = told task.text v.text (λ t. Accepted t o.system) v.text_is (held_told task.text o.system o.holds) in
-    let same = one_system_of_text v.text v.system o.system v.taken held in
-    not_both_set v.system task.settings inputs h.refusal given (ap (λ s. first (settings_offences s task.settings)) same ∙ o.is)
+    let held = told text t.text (λ x. Accepted x o.system) t.text_is (held_told text o.system o.holds) in
+    let same = one_system_of_text t.text t.system o.system t.taken held in
+    not_both_set t.system settings v.inputs h.refusal v.given (ap (λ s. first (settings_offences s settings)) same ∙ o.is)
 
--- and where they have an offence nothing is played
-not_played : (task : Task) → HasMisset task → Played task → ⊥
-not_played task b r =
+-- a text that gives inputs with settings
+gives_here : (text : Option (List ℕ)) (settings : List Assignment) (known : List ℕ) (m : Semantics) (inputs : Inputs) → FileGives text settings m inputs → text ≡ Some known → Gives known settings m inputs
+gives_here text settings known m inputs h is = told text known (λ t. Gives t settings m inputs) is (where_told text settings m inputs h)
+
+-- where the text has an offence, or the settings have one, they give nothing
+gives_no_offence : (text : Option (List ℕ)) (settings : List Assignment) (m : Semantics) (inputs : Inputs) → HasOffence Offends text → FileGives text settings m inputs → ⊥
+gives_no_offence text settings m inputs b h =
+    let g = gives_here text settings b.text m inputs h b.text_is in never_refused.1 b.text g.system b.offence g.runs b.first
+
+gives_no_misset : (text : Option (List ℕ)) (settings : List Assignment) (m : Semantics) (inputs : Inputs) → HasMisset text settings → FileGives text settings m inputs → ⊥
+gives_no_misset text settings m inputs b h =
     let t = b.text in
-    let g = given_here task t.text r t.text_is in
+    let g = gives_here text settings t.text m inputs h t.text_is in
     let same = one_system_of_text t.text t.system g.system t.taken g.runs in
-    not_both_set t.system task.settings r.inputs b.refusal (ap (λ s. inputs_given s task.settings) same ∙ g.given) b.is
+    not_both_set t.system settings inputs b.refusal (ap (λ s. inputs_given s settings) same ∙ g.given) b.is
+
+-- ---- traces
+
+-- what is written of a trace that is told is what is to be said of it
+one_answer : (trial : Trial) (a b : Result Unit ReplayFault) → HasVerdict trial a → Judged trial b → Says a → Says b → a ≡ b
+one_answer trial a b v h say tell =
+    let t = v.start.text in
+    let g = gives_here trial.text trial.settings t.text h.semantics h.inputs h.gives t.text_is in
+    let system = one_system_of_text t.text t.system g.system t.taken g.runs in
+    let inputs = same_Some h.inputs v.start.inputs (sym g.given ∙ ap (λ s. inputs_given s trial.settings) (sym system) ∙ v.start.given) in
+    let judged = told trial.trace v.trace (λ text. Judges h.semantics (opening_state h.semantics h.inputs) text b) v.trace_is h.judged in
+    let m = semantics_of t.system in
+    let here : Judges m (opening_state m v.start.inputs) v.trace b =
+    subst (λ i. Judges m (opening_state m i) v.trace b) inputs (subst (λ x. Judges x (opening_state x h.inputs) v.trace b) (g.says ∙ ap semantics_of (sym system)) judged) in
+    one_verdict m (opening_state m v.start.inputs) v.trace a b (told_names t.text t.system t.taken) v.judged here say tell
 
 -- ---- commands
 
@@ -175,21 +204,21 @@ print_outcome text sure WorldFull bytes s h = absurd h
 
 world_outcome : (task : Task) (sure r : Status) (bytes : List ℕ) → WorldIsSure task sure → IsWritten (OfWorld task) r bytes → Outcome sure r
 world_outcome task sure Done bytes (plays v never) h = done
-world_outcome task sure Refused bytes (plays v never) h = absurd (not_world_refused task bytes v.text v.inputs v.given h)
+world_outcome task sure Refused bytes (plays v never) h = absurd (not_unset task.text task.settings bytes v.start h)
 world_outcome task sure BadSchedule bytes (plays v never) h = absurd (not_both task bytes v h)
 world_outcome task sure WorldFull bytes (plays v never) h = absurd (never bytes h)
 world_outcome task sure Done bytes (stops v never) h = absurd (not_ended task bytes v h)
-world_outcome task sure Refused bytes (stops v never) h = absurd (not_world_refused task bytes v.text v.inputs v.given h)
+world_outcome task sure Refused bytes (stops v never) h = absurd (not_unset task.text task.settings bytes v.start h)
 world_outcome task sure BadSchedule bytes (stops v never) h = done
 world_outcome task sure WorldFull bytes (stops v never) h = absurd (never bytes h)
-world_outcome task sure Done bytes (refuses b) h = absurd (not_given task b h.run)
+world_outcome task sure Done bytes (refuses b) h = absurd (gives_no_offence task.text task.settings h.run.semantics h.run.inputs b h.run.gives)
 world_outcome task sure Refused bytes (refuses b) h = done
-world_outcome task sure BadSchedule bytes (refuses b) h = absurd (not_given task b h.run)
-world_outcome task sure WorldFull bytes (refuses b) h = absurd (not_given task b h.run)
-world_outcome task sure Done bytes (missets b) h = absurd (not_played task b h.run)
+world_outcome task sure BadSchedule bytes (refuses b) h = absurd (gives_no_offence task.text task.settings h.run.semantics h.run.inputs b h.run.gives)
+world_outcome task sure WorldFull bytes (refuses b) h = absurd (gives_no_offence task.text task.settings h.run.semantics h.run.inputs b h.run.gives)
+world_outcome task sure Done bytes (missets b) h = absurd (gives_no_misset task.text task.settings h.run.semantics h.run.inputs b h.run.gives)
 world_outcome task sure Refused bytes (missets b) h = done
-world_outcome task sure BadSchedule bytes (missets b) h = absurd (not_played task b h.run)
-world_outcome task sure WorldFull bytes (missets b) h = absurd (not_played task b h.run)
+world_outcome task sure BadSchedule bytes (missets b) h = absurd (gives_no_misset task.text task.settings h.run.semantics h.run.inputs b h.run.gives)
+world_outcome task sure WorldFull bytes (missets b) h = absurd (gives_no_misset task.text task.settings h.run.semantics h.run.inputs b h.run.gives)
 world_outcome task sure ReadFault bytes s h = unread
 world_outcome task sure WriteFault bytes s h = unwritten
 world_outcome task sure NoMemory bytes s h = no_memory
@@ -197,11 +226,74 @@ world_outcome task sure Usage bytes s h = absurd h
 world_outcome task sure LinkFault bytes s h = absurd h
 world_outcome task sure NotARun bytes s h = absurd h
 
+replay_outcome : (trial : Trial) (sure r : Status) (bytes : List ℕ) → ReplayIsSure trial sure → IsWritten (OfReplay trial) r bytes → Outcome sure r
+replay_outcome trial sure Done bytes (runs v) h = done
+replay_outcome trial sure BadSchedule bytes (runs v) h = let e = one_answer trial _ _ v h.1 tt tt in cc
+replay_outcome trial sure NotARun bytes (runs v) h = let e = one_answer trial _ _ v h.1 tt tt in cc
+replay_outcome trial sure Refused bytes (runs v) h = absurd (not_unset trial.text trial.settings bytes v.start h)
+replay_outcome trial sure Done bytes (breaks n v) h = let e = one_answer trial _ _ v h.0 tt tt in cc
+replay_outcome trial sure BadSchedule bytes (breaks n v) h = done
+replay_outcome trial sure NotARun bytes (breaks n v) h = let e = one_answer trial _ _ v h.1 tt tt in cc
+replay_outcome trial sure Refused bytes (breaks n v) h = absurd (not_unset trial.text trial.settings bytes v.start h)
+replay_outcome trial sure Done bytes (strays n v) h = let e = one_answer trial _ _ v h.0 tt tt in cc
+replay_outcome trial sure BadSchedule bytes (strays n v) h = let e = one_answer trial _ _ v h.1 tt tt in cc
+replay_outcome trial sure NotARun bytes (strays n v) h = done
+replay_outcome trial sure Refused bytes (strays n v) h = absurd (not_unset trial.text trial.settings bytes v.start h)
+replay_outcome trial sure Done bytes (replay_refuses b) h = absurd (gives_no_offence trial.text trial.settings h.0.semantics h.0.inputs b h.0.gives)
+replay_outcome trial sure BadSchedule bytes (replay_refuses b) h = absurd (gives_no_offence trial.text trial.settings h.1.semantics h.1.inputs b h.1.gives)
+replay_outcome trial sure NotARun bytes (replay_refuses b) h = absurd (gives_no_offence trial.text trial.settings h.1.semantics h.1.inputs b h.1.gives)
+replay_outcome trial sure Refused bytes (replay_refuses b) h = done
+replay_outcome trial sure Done bytes (replay_missets b) h = absurd (gives_no_misset trial.text trial.settings h.0.semantics h.0.inputs b h.0.gives)
+replay_outcome trial sure BadSchedule bytes (replay_missets b) h = absurd (gives_no_misset trial.text trial.settings h.1.semantics h.1.inputs b h.1.gives)
+replay_outcome trial sure NotARun bytes (replay_missets b) h = absurd (gives_no_misset trial.text trial.settings h.1.semantics h.1.inputs b h.1.gives)
+replay_outcome trial sure Refused bytes (replay_missets b) h = done
+replay_outcome trial sure ReadFault bytes s h = unread
+replay_outcome trial sure WriteFault bytes s h = unwritten
+replay_outcome trial sure NoMemory bytes s h = no_memory
+replay_outcome trial sure Usage bytes s h = absurd h
+replay_outcome trial sure LinkFault bytes s h = absurd h
+replay_outcome trial sure WorldFull bytes s h = absurd h
+
+make_outcome : (order : Order) (sure r : Status) (bytes : List ℕ) → MakeIsSure order.text sure → IsWritten (OfMake order) r bytes → Outcome sure r
+make_outcome order sure Done bytes (makes v) h = done
+make_outcome order sure Refused bytes (makes v) h = absurd (not_refused order.text bytes v h)
+make_outcome order sure Done bytes (make_refuses b) h = absurd (not_accepted order.text h.system b h.accepted)
+make_outcome order sure Refused bytes (make_refuses b) h = done
+make_outcome order sure ReadFault bytes s h = unread
+make_outcome order sure WriteFault bytes s h = unwritten
+make_outcome order sure NoMemory bytes s h = no_memory
+make_outcome order sure Usage bytes s h = absurd h
+make_outcome order sure BadSchedule bytes s h = absurd h
+make_outcome order sure LinkFault bytes s h = absurd h
+make_outcome order sure NotARun bytes s h = absurd h
+make_outcome order sure WorldFull bytes s h = absurd h
+
+soak_outcome : (load : Load) (sure r : Status) (bytes : List ℕ) → SoakIsSure load sure → IsWritten (OfSoak load) r bytes → Outcome sure r
+soak_outcome load sure Done bytes (soaks v never) h = done
+soak_outcome load sure Refused bytes (soaks v never) h = absurd (not_unset load.text load.settings bytes v h)
+soak_outcome load sure WorldFull bytes (soaks v never) h = absurd (never bytes h)
+soak_outcome load sure Done bytes (soak_refuses b) h = absurd (gives_no_offence load.text load.settings _ h.inputs b (set_up_gives h.gives))
+soak_outcome load sure Refused bytes (soak_refuses b) h = done
+soak_outcome load sure WorldFull bytes (soak_refuses b) h = absurd (gives_no_offence load.text load.settings _ h.inputs b (set_up_gives h.gives))
+soak_outcome load sure Done bytes (soak_missets b) h = absurd (gives_no_misset load.text load.settings _ h.inputs b (set_up_gives h.gives))
+soak_outcome load sure Refused bytes (soak_missets b) h = done
+soak_outcome load sure WorldFull bytes (soak_missets b) h = absurd (gives_no_misset load.text load.settings _ h.inputs b (set_up_gives h.gives))
+soak_outcome load sure ReadFault bytes s h = unread
+soak_outcome load sure WriteFault bytes s h = unwritten
+soak_outcome load sure NoMemory bytes s h = no_memory
+soak_outcome load sure Usage bytes s h = absurd h
+soak_outcome load sure BadSchedule bytes s h = absurd h
+soak_outcome load sure LinkFault bytes s h = absurd h
+soak_outcome load sure NotARun bytes s h = absurd h
+
 outcome : (asked : Option Asked) (contents : Contents) (sure r : Status) (bytes : List ℕ) → (command_for asked).is_sure contents sure → IsWritten ((command_for asked).writes contents) r bytes → Outcome sure r
 outcome None contents sure r bytes s h = no_command_outcome sure r bytes s h
 outcome (Some (check system)) contents sure r bytes s h = check_outcome (contents system) sure r bytes s h
 outcome (Some (print system)) contents sure r bytes s h = print_outcome (contents system) sure r bytes s h
 outcome (Some (world system schedule seed settings)) contents sure r bytes s h = world_outcome (task_of system schedule seed settings contents) sure r bytes s h
+outcome (Some (replay system trace settings)) contents sure r bytes s h = replay_outcome (trial_of system trace settings contents) sure r bytes s h
+outcome (Some (make system seed events faults)) contents sure r bytes s h = make_outcome (record { text = contents system; seed = seed; events = events; faults = faults }) sure r bytes s h
+outcome (Some (soak system seed events faults settings)) contents sure r bytes s h = soak_outcome (load_of system seed events faults settings contents) sure r bytes s h
 
 pub sure_status : (asked : Option Asked) (contents : Contents) (r : Status) (before now : Option (List ℕ)) (sb sn ob on : ℕ) → Writes ((command_for asked).writes contents) r before now
     → HasStoreCause r sb sn → HasSinkCause r ob on → (sure : Status) → (command_for asked).is_sure contents sure → IsSure sure sb sn ob on r

@@ -1,6 +1,10 @@
 pub mod All
 pub mod Check
+pub mod Make
 pub mod NoCommand
 pub mod Print
+pub mod Replay
+pub mod Settings
+pub mod Soak
 pub mod Text
 pub mod World

@@ -8,6 +8,12 @@ ghost use Rattle.tapc_core.specs.inner.Closing.{Closes};
 use crate::status::Status;
 use link_trait::{Failed, Sink};
 
+/// The line that is written where memory was refused.
+pub(crate) const NO_MEMORY: &[u8] = b"no memory\n";
+
+/// The line that is written where a file was not read.
+pub(crate) const READ_FAULT: &[u8] = b"read fault\n";
+
 /// Puts the one text that a run writes, and answers the status; where the put fails, `WriteFault`.
 pub fn close<O: Sink>(text: &[u8], out: &mut O, status: Status) -> Status
     requires { status ≢ Status.WriteFault }

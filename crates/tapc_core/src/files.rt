@@ -3,8 +3,8 @@
 ghost use Rattle.std.specs.Prelude.{◌≡◌, ℕ, List, Err, IfOk, IfSome, OnOk};
 ghost use Rattle.tap_base.specs.Wires.{wire_of};
 ghost use Rattle.tap_exec.specs.Semantics.{semantics_of};
-ghost use Rattle.run_text.specs.Names.{AreNames};
-ghost use Rattle.run_text.specs.TraceText.{names_in};
+ghost use Rattle.tap_base.specs.Resolved.{IsResolved};
+ghost use Rattle.replay.specs.Grammar.{TellsNames};
 ghost use Rattle.tap_front.specs.Accepting.{Accepted, IsReadAs};
 ghost use Rattle.tap_front.specs.Offences.{IsMisspelling, Offends};
 ghost use Rattle.link_trait.specs.Outside.{IsTold};
@@ -80,8 +80,9 @@ pub fn read_system<S: Store>(alloc: Global, name: &str, store: &mut S) -> Result
 /// long is refused L0 at 1:1, whatever it holds.
 pub fn read_to_run<S: Store>(alloc: Global, name: &str, store: &mut S) -> Result<System, FileFault>
     ensures runnable { IfOk result IsRunnable }
+    ensures resolved { IfOk result IsResolved }
     ensures wire { IfOk result (λ s. HasLayout (wire_of s)) }
-    ensures apart { IfOk result (λ s. AreNames (names_in (semantics_of s))) }
+    ensures names { IfOk result (λ s. TellsNames (semantics_of s)) }
     ensures holds { IfOk result (λ s. HoldsSystem (S.contents store.old name.now) s) }
     ensures refused { (o : Offence) → result ≡ Err (FileFault.Refused o) → IfSome (S.contents store.old name.now) (λ text. Offends text o) }
     ensures left { WasRead result → LeavesText (S.contents store.old name.now) (S.left store.new) }

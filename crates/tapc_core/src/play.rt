@@ -1,4 +1,4 @@
-//! A run from its opening state to the last line that is written.
+//! The command `world`: a run from its opening state to the last line that is written.
 
 ghost use Rattle.std.specs.Prelude.{◌≡◌, ◌++◌, IfOk, string_bytes};
 ghost use Rattle.tap_base.specs.Wires.{wire_of};
@@ -10,11 +10,14 @@ ghost use Rattle.exact_choice.specs.Draws.{opening_generators};
 ghost use Rattle.exact_choice.specs.Rejects.{opening_errors};
 ghost use Rattle.run_text.specs.Names.{AreNames};
 ghost use Rattle.run_text.specs.TraceText.{last_lines, lines_text, names_in};
-ghost use Rattle.tapc_core.specs.Causes.{HasSinkCause};
+ghost use Rattle.link_trait.specs.Outside.{IsTold};
+ghost use Rattle.tapc_core.specs.Causes.{HasSinkCause, HasStoreCause};
+ghost use Rattle.tapc_core.specs.Command.{AreFound};
 ghost use Rattle.tapc_core.specs.Lines.{bad_line, full_line, no_memory_line};
 ghost use Rattle.tapc_core.specs.Run.{Task};
+ghost use Rattle.tapc_core.specs.SettingWords.{settings_among};
 ghost use Rattle.tapc_core.specs.Written.{Writes};
-ghost use Rattle.tapc_core.specs.commands.World.{IsPlayed, OfWorld};
+ghost use Rattle.tapc_core.specs.commands.World.{IsPlayed, OfWorld, world_command};
 ghost use Rattle.tapc_core.specs.inner.Closing.{ClosesOr};
 ghost use Rattle.tapc_core.specs.inner.Playing.{AreOf};
 ghost use Rattle.exact_choice.specs.Runnable.{IsRunnable};
@@ -22,20 +25,48 @@ ghost use Rattle.world_run.specs.Layouts.{HasLayout};
 ghost use Rattle.world_run.specs.Names.{AreNamesOf};
 ghost use Rattle.world_run.specs.Served.{GoesOn};
 
-use crate::closing::{close, close_behind};
+use crate::closing::{NO_MEMORY, close, close_behind};
+use crate::files::FileFault;
 use crate::lines::{Stop, play_lines};
+use crate::reading::read_whole;
+use crate::refusing::{give_up, start_not};
+use crate::start::{Start, begin};
 use crate::status::Status;
-use link_trait::Sink;
+use link_trait::{Sink, Store};
 use run_text::{Names, names_of};
 use std::alloc::Global;
-use tap_base::{Inputs, NoMemory, System};
+use tap_base::{Inputs, NoMemory, System, Text};
 use world_run::World;
 
-/// The line that is written where memory was refused.
-pub const NO_MEMORY: &[u8] = b"no memory\n";
+/// Runs the world of a system on a schedule, whose files have these names, with a seed and the settings of
+/// inputs among words.
+pub(crate) fn world<S: Store, O: Sink>(
+    alloc: Global,
+    system: &str,
+    schedule: &str,
+    seed: u64,
+    settings: &[Text],
+    store: &mut S,
+    out: &mut O,
+) -> Status
+    ensures writes { Writes ((world_command system.now schedule.now seed (settings_among settings.now)).writes (S.contents store.old)) result (O.written out.old) (O.written out.new) }
+    ensures answers { (world_command system.now schedule.now seed (settings_among settings.now)).answers result }
+    ensures found { IsTold (S.left store.old) → AreFound ((world_command system.now schedule.now seed (settings_among settings.now)).reads result) (S.contents store.old) }
+    ensures leaves { (world_command system.now schedule.now seed (settings_among settings.now)).leaves (S.contents store.old) result (S.left store.new) }
+    ensures store_cause { HasStoreCause result (S.faults store.old) (S.faults store.new) }
+    ensures sink_cause { HasSinkCause result (O.faults out.old) (O.faults out.new) }
+{
+    match begin(alloc, system, settings, store) {
+        Ok(Start { system, inputs }) => match read_whole(alloc, store, schedule) {
+            Ok(schedule) => play(alloc, system, &inputs, seed, schedule.as_slice(), out),
+            Err(error) => give_up(alloc, FileFault::from(error), out),
+        },
+        Err(fault) => start_not(alloc, fault, out),
+    }
+}
 
 /// Plays a system with inputs and a seed on a schedule, writes the trace, and answers how that ended.
-pub fn play<O: Sink>(
+fn play<O: Sink>(
     alloc: Global,
     system: System,
     inputs: &Inputs,
@@ -108,7 +139,7 @@ fn close_trace<O: Sink>(
 }
 
 /// Puts the page, and the number of a line that is that of no event.
-fn close_bad<O: Sink>(alloc: Global, number: u64, page: &[u8], out: &mut O) -> Status
+pub(crate) fn close_bad<O: Sink>(alloc: Global, number: u64, page: &[u8], out: &mut O) -> Status
     ensures closes { ClosesOr Status.BadSchedule (page.now ++ bad_line number) (page.now ++ no_memory_line) (O.written out.old) (O.written out.new) result }
     ensures answer { IsPlayed result }
     ensures cause { HasSinkCause result (O.faults out.old) (O.faults out.new) }
@@ -120,7 +151,7 @@ fn close_bad<O: Sink>(alloc: Global, number: u64, page: &[u8], out: &mut O) -> S
 }
 
 /// Puts the page, and how many cells stood in the channels where an event was reached with too many.
-fn close_full<O: Sink>(alloc: Global, cells: u32, page: &[u8], out: &mut O) -> Status
+pub(crate) fn close_full<O: Sink>(alloc: Global, cells: u32, page: &[u8], out: &mut O) -> Status
     ensures closes { ClosesOr Status.WorldFull (page.now ++ full_line cells) (page.now ++ no_memory_line) (O.written out.old) (O.written out.new) result }
     ensures answer { IsPlayed result }
     ensures cause { HasSinkCause result (O.faults out.old) (O.faults out.new) }

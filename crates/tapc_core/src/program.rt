@@ -2,34 +2,33 @@
 
 ghost use Rattle.std.specs.Prelude.{◌≡◌, ℕ, List, None, Some};
 ghost use Rattle.tap_front.specs.Acceptance as written;
-ghost use Rattle.tap_settings.specs.Lines.{refused_setting_line};
 ghost use Rattle.tap_settings.specs.SettingText.{Assignment};
 ghost use Rattle.tapc_core.specs.Causes.{HasSinkCause, HasStoreCause, IsSure};
 ghost use Rattle.tapc_core.specs.Command.{AreFound};
 ghost use Rattle.tapc_core.specs.Lines.{no_memory_line};
 ghost use Rattle.link_trait.specs.Outside.{IsTold};
-ghost use Rattle.tapc_core.specs.SettingWords.{settings_among};
 ghost use Rattle.tapc_core.specs.Words as asked;
 ghost use Rattle.tapc_core.specs.Written.{Puts, Writes};
 ghost use Rattle.tapc_core.specs.commands.All.{command_for};
 ghost use Rattle.tapc_core.specs.commands.Check.{check_command};
 ghost use Rattle.tapc_core.specs.commands.Print.{print_command};
-ghost use Rattle.tapc_core.specs.commands.World.{IsTrace, task_of, world_command};
+ghost use Rattle.tapc_core.specs.commands.World.{IsTrace, task_of};
 ghost use Rattle.tapc_core.specs.inner.Closing.{ClosesOr};
-ghost use Rattle.tapc_core.specs.inner.FileFaults.{GivesUp};
 
-use crate::closing::close;
-use crate::files::{FileFault, read_system, read_tree};
-use crate::play::{NO_MEMORY, play};
-use crate::start::{Start, StartFault, begin};
+use crate::closing::{NO_MEMORY, close};
+use crate::files::{read_system, read_tree};
+use crate::making::make;
+use crate::play::world;
+use crate::refusing::give_up;
+use crate::replaying::replay;
+use crate::soaking::{Numbers, soak};
 use crate::status::Status;
 use crate::words::{Command, command_of, usage_line};
 use link_trait::{Clock, Link, Sink, Store};
 use std::alloc::Global;
 use tap_base::{NoMemory, Text};
-use tap_front::{Offence, acceptance, refused_line};
+use tap_front::acceptance;
 use tap_printer::print;
-use tap_settings::{SettingRefusal, refused_setting_line};
 use width_check::Checked;
 
 /// What the program does: it takes the words of the command line, and answers the status. No command
@@ -82,6 +81,41 @@ fn obey<S: Store, O: Sink>(alloc: Global, words: &[Text], store: &mut S, out: &m
                 settings,
             },
         ) => world(alloc, system, schedule, seed, settings, store, out),
+        Some(
+            Command::Replay {
+                system,
+                trace,
+                settings,
+            },
+        ) => replay(alloc, system, trace, settings, store, out),
+        Some(
+            Command::Make {
+                system,
+                seed,
+                events,
+                faults,
+            },
+        ) => make(alloc, system, seed, events, faults, store, out),
+        Some(
+            Command::Soak {
+                system,
+                seed,
+                events,
+                faults,
+                settings,
+            },
+        ) => soak(
+            alloc,
+            system,
+            Numbers {
+                seed,
+                events,
+                faults,
+            },
+            settings,
+            store,
+            out,
+        ),
         None => close(usage_line(), out, Status::Usage),
     }
 }
@@ -127,70 +161,5 @@ fn print_tree<S: Store, O: Sink>(alloc: Global, system: &str, store: &mut S, out
             Err(NoMemory) => close(NO_MEMORY, out, Status::NoMemory),
         },
         Err(fault) => give_up(alloc, fault, out),
-    }
-}
-
-/// Runs the world of a system on a schedule, whose files have these names, with a seed and the settings of
-/// inputs among words.
-fn world<S: Store, O: Sink>(
-    alloc: Global,
-    system: &str,
-    schedule: &str,
-    seed: u64,
-    settings: &[Text],
-    store: &mut S,
-    out: &mut O,
-) -> Status
-    ensures writes { Writes ((world_command system.now schedule.now seed (settings_among settings.now)).writes (S.contents store.old)) result (O.written out.old) (O.written out.new) }
-    ensures answers { (world_command system.now schedule.now seed (settings_among settings.now)).answers result }
-    ensures found { IsTold (S.left store.old) → AreFound ((world_command system.now schedule.now seed (settings_among settings.now)).reads result) (S.contents store.old) }
-    ensures leaves { (world_command system.now schedule.now seed (settings_among settings.now)).leaves (S.contents store.old) result (S.left store.new) }
-    ensures store_cause { HasStoreCause result (S.faults store.old) (S.faults store.new) }
-    ensures sink_cause { HasSinkCause result (O.faults out.old) (O.faults out.new) }
-{
-    match begin(alloc, system, schedule, settings, store) {
-        Ok(
-            Start {
-                system,
-                inputs,
-                schedule,
-            },
-        ) => play(alloc, system, &inputs, seed, schedule.as_slice(), out),
-        Err(StartFault::Misset(refusal)) => close_misset(alloc, &refusal, out),
-        Err(StartFault::File(fault)) => give_up(alloc, fault, out),
-    }
-}
-
-/// Puts the line of an offence of settings.
-fn close_misset<O: Sink>(alloc: Global, refusal: &SettingRefusal, out: &mut O) -> Status
-    ensures closes { ClosesOr Status.Refused (refused_setting_line refusal.now) no_memory_line (O.written out.old) (O.written out.new) result }
-    ensures cause { HasSinkCause result (O.faults out.old) (O.faults out.new) }
-{
-    match refused_setting_line(alloc, refusal) {
-        Ok(text) => close(text.as_bytes(), out, Status::Refused),
-        Err(NoMemory) => close(NO_MEMORY, out, Status::NoMemory),
-    }
-}
-
-/// Puts the line that says why there is nothing to work on.
-fn give_up<O: Sink>(alloc: Global, fault: FileFault, out: &mut O) -> Status
-    ensures closes { GivesUp fault (O.written out.old) (O.written out.new) result }
-    ensures cause { HasSinkCause result (O.faults out.old) (O.faults out.new) }
-{
-    match fault {
-        FileFault::Refused(offence) => close_refused(alloc, &offence, out),
-        FileFault::ReadFault => close(b"read fault\n", out, Status::ReadFault),
-        FileFault::NoMemory => close(NO_MEMORY, out, Status::NoMemory),
-    }
-}
-
-/// Puts the line of an offence.
-fn close_refused<O: Sink>(alloc: Global, offence: &Offence, out: &mut O) -> Status
-    ensures closes { GivesUp (FileFault.Refused offence.now) (O.written out.old) (O.written out.new) result }
-    ensures cause { HasSinkCause result (O.faults out.old) (O.faults out.new) }
-{
-    match refused_line(alloc, offence) {
-        Ok(line) => close(line.as_bytes(), out, Status::Refused),
-        Err(NoMemory) => close(NO_MEMORY, out, Status::NoMemory),
     }
 }

@@ -43,7 +43,7 @@ fn cut_at_equals(word: &str) -> Option<(&str, &str)>
 }
 
 /// The number of 64 bits that a word writes in decimal.
-fn read_natural(word: &str) -> Option<u64>
+pub fn read_natural(word: &str) -> Option<u64>
     ensures { result ≡ natural_in word.now }
 {
     if !begins_number(word.as_bytes()) {

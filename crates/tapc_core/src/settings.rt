@@ -4,7 +4,7 @@ ghost use Rattle.std.specs.Prelude.{◌≡◌, ◌++◌, IfOk, OnOk};
 ghost use Rattle.std.specs.List.{list_all};
 ghost use Rattle.tap_settings.specs.SettingText.{assignments_of};
 ghost use Rattle.tapc_core.specs.SettingWords.{listed, setting_in, settings_among};
-ghost use Rattle.tapc_core.specs.Words.{is_setting};
+ghost use Rattle.tapc_core.specs.Words.{is_input_setting, is_setting};
 
 use crate::seeds::seed_of;
 use std::alloc::Global;
@@ -26,7 +26,25 @@ pub fn are_settings(words: &[Text]) -> bool
 fn is_setting(word: &str) -> bool
     ensures { result ≡ is_setting word.now }
 {
-    setting_of(word).is_some() || seed_of(word).is_some()
+    is_input(word) || seed_of(word).is_some()
+}
+
+/// Whether all words are settings of inputs.
+pub fn are_inputs(words: &[Text]) -> bool
+    ensures { result ≡ list_all is_input_setting words.now }
+{
+    for word in words {
+        if !is_input(word.as_str()) {
+            return false;
+        }
+    }
+    true
+}
+
+fn is_input(word: &str) -> bool
+    ensures { result ≡ is_input_setting word.now }
+{
+    setting_of(word).is_some()
 }
 
 /// The settings of inputs among words.

@@ -1,11 +1,11 @@
-//! What a world begins with: a system, its inputs, and a schedule.
+//! What a run begins with: a system, and its inputs.
 
 ghost use Rattle.std.specs.Prelude.{◌≡◌, ℕ, List, Err, IfOk, IfSome, OnOk};
+ghost use Rattle.tap_base.specs.Resolved.{IsResolved};
 ghost use Rattle.tap_base.specs.Wires.{wire_of};
 ghost use Rattle.abstract_run.specs.Fits.{InputsFit};
 ghost use Rattle.tap_exec.specs.Semantics.{semantics_of};
-ghost use Rattle.run_text.specs.Names.{AreNames};
-ghost use Rattle.run_text.specs.TraceText.{names_in};
+ghost use Rattle.replay.specs.Grammar.{TellsNames};
 ghost use Rattle.tap_front.specs.Offences.{Offends};
 ghost use Rattle.tap_settings.specs.GivenInputs.{inputs_given};
 ghost use Rattle.tap_settings.specs.Offences.{settings_offences};
@@ -13,30 +13,28 @@ ghost use Rattle.tap_settings.specs.Refusals.{Judges};
 ghost use Rattle.link_trait.specs.Outside.{IsTold};
 ghost use Rattle.tapc_core.specs.Reading.{LeavesText};
 ghost use Rattle.tapc_core.specs.SettingWords.{settings_among};
-ghost use Rattle.tapc_core.specs.commands.World.{Missets, task_of};
-ghost use Rattle.tapc_core.specs.inner.Playing.{AreOf};
-ghost use Rattle.tapc_core.specs.inner.StartFaults.{HasStartCause, WasRefused};
+ghost use Rattle.tapc_core.specs.Run.{SetsUp};
+ghost use Rattle.tapc_core.specs.commands.Settings.{Missets};
+ghost use Rattle.tapc_core.specs.inner.StartFaults.{HasStartCause, WasBegun, WasRefused};
 ghost use Rattle.exact_choice.specs.Runnable.{IsRunnable};
 ghost use Rattle.world_run.specs.Layouts.{HasLayout};
 
 use crate::files::{FileFault, read_to_run};
-use crate::reading::{ReadError, read_whole};
 use crate::settings::settings_among;
 use link_trait::Store;
 use std::alloc::Global;
-use tap_base::{Inputs, List, System, Text};
+use tap_base::{Inputs, System, Text};
 use tap_front::Offence;
 use tap_settings::{SettingRefusal, SettingsFault, inputs_of};
 
-/// What a world begins with.
+/// What a run begins with.
 #[derive(Debug, Drop)]
 pub struct Start {
     pub system: System,
     pub inputs: Inputs,
-    pub schedule: List<u8>,
 }
 
-/// Why a world does not begin.
+/// Why a run does not begin.
 #[derive(Debug, Drop)]
 pub enum StartFault {
     /// There is nothing to work on.
@@ -70,37 +68,30 @@ impl From<SettingsFault> for StartFault {
     }
 }
 
-/// Reads the text of a system to its end, judges the settings, and then reads a schedule.
+/// Reads the text of a system to its end, and judges the settings.
 pub fn begin<S: Store>(
     alloc: Global,
     system: &str,
-    schedule: &str,
     settings: &[Text],
     store: &mut S,
 ) -> Result<Start, StartFault>
     ensures runnable { IfOk result (λ r. IsRunnable r.system) }
+    ensures resolved { IfOk result (λ r. IsResolved r.system) }
     ensures wire { IfOk result (λ r. HasLayout (wire_of r.system)) }
     ensures fit { IfOk result (λ r. InputsFit (semantics_of r.system) r.inputs) }
-    ensures apart { IfOk result (λ r. AreNames (names_in (semantics_of r.system))) }
-    ensures read { (seed : ℕ) → IfOk result (λ r. AreOf seed r.system r.inputs r.schedule (task_of system.now schedule.now seed (settings_among settings.now) (S.contents store.old))) }
+    ensures names { IfOk result (λ r. TellsNames (semantics_of r.system)) }
+    ensures set_up { IfOk result (λ r. SetsUp (S.contents store.old system.now) (settings_among settings.now) r.system r.inputs) }
     ensures refused { (o : Offence) → result ≡ Err (StartFault.File (FileFault.Refused o)) → IfSome (S.contents store.old system.now) (λ text. Offends text o) }
-    ensures misset { (seed : ℕ) (r : SettingRefusal) → result ≡ Err (StartFault.Misset r) → Missets (task_of system.now schedule.now seed (settings_among settings.now) (S.contents store.old)) r }
+    ensures misset { (r : SettingRefusal) → result ≡ Err (StartFault.Misset r) → Missets (S.contents store.old system.now) (settings_among settings.now) r }
     ensures left { WasRefused result → LeavesText (S.contents store.old system.now) (S.left store.new) }
-    ensures found { WasRefused result → IsTold (S.left store.old) → IsTold (S.contents store.old system.now) }
-    ensures found_both { OnOk result (IsTold (S.left store.old) → IsTold (S.contents store.old system.now) × IsTold (S.contents store.old schedule.now)) }
+    ensures found { WasBegun result → IsTold (S.left store.old) → IsTold (S.contents store.old system.now) }
+    ensures told { OnOk result (IsTold (S.left store.old) → IsTold (S.left store.new)) }
+    ensures stays { (n : List ℕ) → S.contents store.new n ≡ S.contents store.old n }
     ensures cause { HasStartCause (S.faults store.old) (S.faults store.new) result }
 {
     let system = read_to_run(alloc, system, store)?;
     let inputs = given_inputs(alloc, &system, settings)?;
-    match read_whole(alloc, store, schedule) {
-        Ok(schedule) => Ok(Start {
-            system,
-            inputs,
-            schedule,
-        }),
-        Err(ReadError::Failed) => Err(StartFault::File(FileFault::ReadFault)),
-        Err(ReadError::NoMemory) => Err(StartFault::File(FileFault::NoMemory)),
-    }
+    Ok(Start { system, inputs })
 }
 
 /// The inputs that the settings among words give a system, or their first offence.

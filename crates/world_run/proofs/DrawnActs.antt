@@ -27,9 +27,11 @@ use Rattle.drawn_choices.specs.Draws.{AreDrawn, after_words, generator_of, word_
 use Rattle.exact_choice.specs.Acting.{ActsDrawn}
 use Rattle.exact_choice.specs.Runnable.{IsRunnable}
 use Rattle.world_run.specs.declared.course.Course.{Course}
+use Rattle.world_run.specs.declared.deeds.Deeds.{Deeds}
 use Rattle.world_run.specs.Served.{IsCourse, IsSteady}
-use Rattle.world_run.specs.inner.Serving.{DidAct, IsTaken, WroteDone}
-use Rattle.world_run.proofs.OneLabel.{both, did_one}
+use Rattle.world_run.specs.inner.Serving.{DidAct, IsTaken, KeepsLabel}
+use Rattle.world_run.proofs.OneLabel.{did_one}
+use Rattle.world_run.proofs.Recording.{both}
 
 -- the generators of one process more
 pub generators_more : (seed n : ℕ) (old new : List Lcg) (g : Lcg) → old ≡ map (generator_of seed) (range_with_len 0 n) → g ≡ generator_of seed n → new ≡ old ++ g ∷ []
@@ -78,11 +80,11 @@ pub drew_keeps : (system : System) (s : State) (p a : ℕ) (g : Lcg) (t : State)
 drew_keeps system s p a g t sends left runnable fits x = steps_keep (semantics_of system) s t (label.Act p a left.taken) sends runnable.safe.keeps fits x.ran
 
 -- it was done, and the generator was put back
-pub did_act : (system : System) (old new : Course) (p a : ℕ) (g : Lcg) (between : List Lcg) (sends : List Outgoing) (left : Drawing) (before after : List ℕ) → IsRunnable system → IsCourse (semantics_of system) old
+pub did_act : (system : System) (old new : Course) (p a : ℕ) (g : Lcg) (between : List Lcg) (sends : List Outgoing) (left : Drawing) (before after : Deeds) → IsRunnable system → IsCourse (semantics_of system) old
     → Drew system old.state p a g new.state sends left → IsTaken old.generators p g between → new.generators ≡ slice_set between p left.generator
     → new.cells + cells_taken (semantics_of system) (label.Act p a left.taken) ≡ old.cells + (cells_put (label.Act p a left.taken) + length sends)
-    → WroteDone (semantics_of system) (label.Act p a left.taken) new.state sends before after → Each (FitsSigned w64) left.taken → DidAct (semantics_of system) p a old new before after
-did_act system old new p a g between sends left before after runnable whole x taken put counted wrote sized =
+    → KeepsLabel (label.Act p a left.taken) new.state sends before after → Each (FitsSigned w64) left.taken → DidAct (semantics_of system) p a old new before after
+did_act system old new p a g between sends left before after runnable whole x taken put counted kept_by sized =
     let kept = drew_keeps system old.state p a g new.state sends left runnable whole.fits x in
     record {
       choices = left.taken;
@@ -93,5 +95,5 @@ did_act system old new p a g between sends left before after runnable whole x ta
         moved = put ∙ ap (λ (gs : List Lcg). slice_set gs p left.generator) taken.left ∙ set-set old.generators p taken.other left.generator ∙ ap (slice_set old.generators p) x.next;
       };
       sized = sized;
-      did = did_one (semantics_of system) old new (label.Act p a left.taken) sends before after x.ran kept.fits kept.sent kept.cells whole.cells counted wrote;
+      did = did_one (semantics_of system) old new (label.Act p a left.taken) sends before after x.ran kept.fits kept.sent kept.cells whole.cells counted kept_by;
     }

@@ -24,7 +24,8 @@ use Rattle.abstract_run.proofs.Roomy.{CanChange, changed_can, joined_among, join
 use Rattle.exact_choice.specs.Rejects.{Rejects, arrives_bad, one_more}
 use Rattle.run_text.specs.ScheduleText.{AreTwo}
 use Rattle.world_run.specs.declared.course.Course.{Course}
-use Rattle.world_run.specs.Served.{Did, IsCourse, IsSteady, NamesProcesses, Served}
+use Rattle.world_run.specs.declared.deeds.Deeds.{Deeds}
+use Rattle.world_run.specs.Served.{Happened, IsCourse, IsSteady, NamesProcesses, TookPlace}
 use Rattle.world_run.specs.inner.Serving.{DidOne, IsPlain, label_of}
 use Rattle.world_run.proofs.Leaves.{IsNoAct}
 use Rattle.world_run.proofs.OneLabel.{course_after, did}
@@ -39,16 +40,16 @@ pub void_is : (m : Semantics) (s : State) (l : Label) → step m s l ≡ None �
 void_is m s l e = rw e refl
 
 -- the label was done
-pub done_or_void : (m : Semantics) (old new : Course) (l : Label) (t : State) (sends : List Outgoing) (before after : List ℕ) → step m old.state l ≡ Some (t, sends) → Did m (l ∷ []) old new before after
-    → Did m (or_void m old.state l ∷ []) old new before after
-done_or_void m old new l t sends before after ran d = subst (λ k. Did m (k ∷ []) old new before after) (sym (possible_is m old.state l (t, sends) ran)) d
+pub done_or_void : (m : Semantics) (old new : Course) (l : Label) (t : State) (sends : List Outgoing) (before after : Deeds) → step m old.state l ≡ Some (t, sends) → Happened m (l ∷ []) old new before after
+    → Happened m (or_void m old.state l ∷ []) old new before after
+done_or_void m old new l t sends before after ran d = subst (λ k. Happened m (k ∷ []) old new before after) (sym (possible_is m old.state l (t, sends) ran)) d
 
 -- nothing was
-pub void_or_done : (m : Semantics) (old middle new : Course) (l : Label) (before middle_text after : List ℕ) → step m old.state l ≡ None → middle ≡ old → middle_text ≡ before
-    → Did m (label.Void ∷ []) middle new middle_text after → Did m (or_void m old.state l ∷ []) old new before after
-void_or_done m old middle new l before middle_text after none same text d =
-    subst (λ k. Did m (k ∷ []) old new before after) (sym (void_is m old.state l none))
-    (subst (λ c. Did m (label.Void ∷ []) c new before after) same (subst (λ b. Did m (label.Void ∷ []) middle new b after) text d))
+pub void_or_done : (m : Semantics) (old middle new : Course) (l : Label) (before between after : Deeds) → step m old.state l ≡ None → middle ≡ old → between ≡ before
+    → Happened m (label.Void ∷ []) middle new between after → Happened m (or_void m old.state l ∷ []) old new before after
+void_or_done m old middle new l before between after none same text d =
+    subst (λ k. Happened m (k ∷ []) old new before after) (sym (void_is m old.state l none))
+    (subst (λ c. Happened m (label.Void ∷ []) c new before after) same (subst (λ b. Happened m (label.Void ∷ []) middle new b after) text d))
 
 or_no_act : (m : Semantics) (s : State) (l : Label) → IsNoAct l → IsNoAct (or_void m s l)
 or_no_act m s l h = by_test (is_some (step m s l)) where
@@ -56,7 +57,7 @@ or_no_act m s l h = by_test (is_some (step m s l)) where
   by_test true = h
   by_test false = tt
 
-pub or_settled : (m : Semantics) (old new : Course) (l : Label) (before after : List ℕ) → IsNoAct l → old.state.falling ≡ None → Did m (or_void m old.state l ∷ []) old new before after → new.state.falling ≡ None
+pub or_settled : (m : Semantics) (old new : Course) (l : Label) (before after : Deeds) → IsNoAct l → old.state.falling ≡ None → Happened m (or_void m old.state l ∷ []) old new before after → new.state.falling ≡ None
 or_settled m old new l before after other settled d = one_settled m old new (or_void m old.state l) before after d (or_no_act m old.state l other) settled
 
 -- ---- arrivals
@@ -66,17 +67,17 @@ pub arrived_rejects : (s : State) (q p : ℕ) (old new : List (List ℕ)) (bad :
 arrived_rejects s q p old new bad is e = e ∙ ap (λ b. if b then one_more q p old else old) is
 
 -- the errors were changed behind the label
-pub with_errors : (m : Semantics) (old new : Course) (l : Label) (errors : List (List ℕ)) (before after : List ℕ) → DidOne m l old new before after → DidOne m l old (record new { errors = errors }) before after
-with_errors m old new l errors before after d = record { sends = d.sends; ran = d.ran; fits = d.fits; cells = d.cells; few = d.few; wrote = d.wrote }
+pub with_errors : (m : Semantics) (old new : Course) (l : Label) (errors : List (List ℕ)) (before after : Deeds) → DidOne m l old new before after → DidOne m l old (record new { errors = errors }) before after
+with_errors m old new l errors before after d = record { sends = d.sends; ran = d.ran; fits = d.fits; cells = d.cells; few = d.few; recorded = d.recorded }
 
-pub arrival : (m : Semantics) (old new : Course) (q p : ℕ) (bad : Bool) (before after : List ℕ) → q < length m.processes → p < length m.processes → bad ≡ arrives_bad old.state q p
+pub arrival : (m : Semantics) (old new : Course) (q p : ℕ) (bad : Bool) (before after : Deeds) → q < length m.processes → p < length m.processes → bad ≡ arrives_bad old.state q p
     → DidOne m (label.Arrive q p) old new before after → new.turnstiles ≡ old.turnstiles → new.generators ≡ old.generators → new.errors ≡ (if bad then one_more q p old.errors else old.errors)
-    → Did m (or_void m old.state (label.Arrive q p) ∷ []) old new before after
+    → Happened m (or_void m old.state (label.Arrive q p) ∷ []) old new before after
 arrival m old new q p bad before after peer there is d cursors generators errors =
     done_or_void m old new (label.Arrive q p) new.state d.sends before after d.ran
     (did m old new (label.Arrive q p) before after d cursors generators (arrived_rejects old.state q p old.errors new.errors bad is errors) (peer, there))
 
-pub arrival_course : (m : Semantics) (old new : Course) (q p : ℕ) (bad : Bool) (before after : List ℕ) → IsCourse m old → bad ≡ arrives_bad old.state q p
+pub arrival_course : (m : Semantics) (old new : Course) (q p : ℕ) (bad : Bool) (before after : Deeds) → IsCourse m old → bad ≡ arrives_bad old.state q p
     → DidOne m (label.Arrive q p) old new before after → new.turnstiles ≡ old.turnstiles → new.generators ≡ old.generators → new.errors ≡ (if bad then one_more q p old.errors else old.errors) → IsCourse m new
 arrival_course m old new q p bad before after whole is d cursors generators errors =
     course_after m old new (label.Arrive q p) before after whole d cursors generators (arrived_rejects old.state q p old.errors new.errors bad is errors)
@@ -149,24 +150,24 @@ segment m course (event.Forge q p bytes) h steady room named =
 segment m course (event.Cut p n) h steady room named =
     let x = cut_can m course p n steady named in ap (λ (l : Label). l ∷ []) (possible_is m course.state (label.Cut p n) (x.next, x.sends) x.is)
 
-pub fault_served : (m : Semantics) (old new : Course) (e : Event) (l : Label) (before after : List ℕ) → IsFault e → l ≡ label_of e → IsSteady m old → old.cells ≤ 100000 → NamesProcesses (length m.processes) e
-    → Did m (or_void m old.state l ∷ []) old new before after → Served m e old new before after
+pub fault_served : (m : Semantics) (old new : Course) (e : Event) (l : Label) (before after : Deeds) → IsFault e → l ≡ label_of e → IsSteady m old → old.cells ≤ 100000 → NamesProcesses (length m.processes) e
+    → Happened m (or_void m old.state l ∷ []) old new before after → TookPlace m e old new before after
 fault_served m old new e l before after h is steady room named d =
-    let done = subst (λ k. Did m (or_void m old.state k ∷ []) old new before after) is d in
+    let done = subst (λ k. Happened m (or_void m old.state k ∷ []) old new before after) is d in
     served m e old new (or_void m old.state (label_of e) ∷ []) before after (segment m old e h steady room named) done (or_settled m old new (label_of e) before after (no_act e) steady.settled done)
 
-pub fault_steady : (m : Semantics) (old new : Course) (e : Event) (l : Label) (before after : List ℕ) → l ≡ label_of e → IsSteady m old → IsCourse m new
-    → Did m (or_void m old.state l ∷ []) old new before after → IsSteady m new
+pub fault_steady : (m : Semantics) (old new : Course) (e : Event) (l : Label) (before after : Deeds) → l ≡ label_of e → IsSteady m old → IsCourse m new
+    → Happened m (or_void m old.state l ∷ []) old new before after → IsSteady m new
 fault_steady m old new e l before after is steady whole d =
-    let done = subst (λ k. Did m (or_void m old.state k ∷ []) old new before after) is d in
+    let done = subst (λ k. Happened m (or_void m old.state k ∷ []) old new before after) is d in
     record { whole = whole; settled = or_settled m old new (label_of e) before after (no_act e) steady.settled done }
 
-pub arrive_served : (m : Semantics) (old new : Course) (q p : ℕ) (before after : List ℕ) → IsSteady m old → Did m (or_void m old.state (label.Arrive q p) ∷ []) old new before after
-    → Served m (event.Arrive q p) old new before after
+pub arrive_served : (m : Semantics) (old new : Course) (q p : ℕ) (before after : Deeds) → IsSteady m old → Happened m (or_void m old.state (label.Arrive q p) ∷ []) old new before after
+    → TookPlace m (event.Arrive q p) old new before after
 arrive_served m old new q p before after steady d =
     served m (event.Arrive q p) old new (or_void m old.state (label.Arrive q p) ∷ []) before after refl d (or_settled m old new (label.Arrive q p) before after tt steady.settled d)
 
-pub arrive_steady : (m : Semantics) (old new : Course) (q p : ℕ) (before after : List ℕ) → IsSteady m old → IsCourse m new → Did m (or_void m old.state (label.Arrive q p) ∷ []) old new before after → IsSteady m new
+pub arrive_steady : (m : Semantics) (old new : Course) (q p : ℕ) (before after : Deeds) → IsSteady m old → IsCourse m new → Happened m (or_void m old.state (label.Arrive q p) ∷ []) old new before after → IsSteady m new
 arrive_steady m old new q p before after steady whole d = record { whole = whole; settled = or_settled m old new (label.Arrive q p) before after tt steady.settled d }
 
 -- two processes of a system

@@ -5,5 +5,8 @@ pub mod LaidOut
 pub mod Leaves
 pub mod Lines
 pub mod OneLabel
+pub mod Recording
 pub mod Rejecting
+pub mod RunsOn
+pub mod Trace
 pub mod Turns

@@ -27,9 +27,10 @@ use Rattle.exact_choice.proofs.RejectsKept.{errors_kept}
 use Rattle.run_text.specs.Sized.{IsSized}
 use Rattle.run_text.specs.TraceText.{went_out}
 use Rattle.world_run.specs.declared.course.Course.{Course}
-use Rattle.world_run.specs.Served.{Did, IsCourse}
-use Rattle.world_run.specs.inner.Serving.{DidOne, IsPlain, WroteDone, most_more}
-use Rattle.world_run.proofs.Lines.{none_wrote, one_wrote, wrote_more}
+use Rattle.world_run.specs.declared.deeds.Deeds.{Deeds}
+use Rattle.world_run.specs.Served.{Happened, IsCourse}
+use Rattle.world_run.specs.inner.Serving.{DidOne, IsPlain, KeepsLabel, most_more}
+use Rattle.world_run.proofs.Recording.{both, none_recorded, one_recorded, recorded_more}
 
 -- ---- what a label sends
 
@@ -64,10 +65,9 @@ each_front P (suc n) [] h = tt
 each_front P (suc n) (x ∷ xs) h = (h.0, each_front P n xs h.1)
 
 -- and so are those that went out
-pub out_declared : (semantics : Semantics) (l : Label) (t : State) (sends out : List Outgoing) → AreFitSends semantics l sends → out ≡ went_out (t, sends)
-    → Each (λ o. AreValuesOf semantics.messages o.message o.values) out
-out_declared semantics l t sends out h e =
-    subst (Each (λ o. AreValuesOf semantics.messages o.message o.values)) (sym e) (each_front (λ o. AreValuesOf semantics.messages o.message o.values) _ sends (sends_declared semantics l sends h))
+out_declared : (semantics : Semantics) (l : Label) (t : State) (sends : List Outgoing) → AreFitSends semantics l sends
+    → Each (λ o. AreValuesOf semantics.messages o.message o.values) (went_out (t, sends))
+out_declared semantics l t sends h = each_front (λ o. AreValuesOf semantics.messages o.message o.values) _ sends (sends_declared semantics l sends h)
 
 -- ---- how many cells it leaves
 
@@ -121,16 +121,16 @@ taken_there semantics l s t sends cells counted is = omega (arith, counted, is)
 
 -- ---- a label was done
 
-pub did_one : (semantics : Semantics) (old new : Course) (l : Label) (sends : List Outgoing) (before after : List ℕ) → step semantics old.state l ≡ Some (new.state, sends)
+pub did_one : (semantics : Semantics) (old new : Course) (l : Label) (sends : List Outgoing) (before after : Deeds) → step semantics old.state l ≡ Some (new.state, sends)
     → Fits semantics new.state → AreFitSends semantics l sends → CountsCells semantics l old.state sends new.state → old.cells ≡ cells_in old.state
-    → new.cells + cells_taken semantics l ≡ old.cells + (cells_put l + length sends) → WroteDone semantics l new.state sends before after → DidOne semantics l old new before after
+    → new.cells + cells_taken semantics l ≡ old.cells + (cells_put l + length sends) → KeepsLabel l new.state sends before after → DidOne semantics l old new before after
 did_one semantics old new l sends before after ran fits fit counted was is w = record {
   sends = sends;
   ran = ran;
   fits = fits;
   cells = omega (arith, counted, was, is);
   few = let most = more semantics l sends fit in omega (arith, is, most);
-  wrote = one_wrote semantics old.state new.state l sends before w.middle after ran w.first w.wrote;
+  recorded = one_recorded semantics old.state new.state l sends before after ran (out_declared semantics l new.state sends fit) w;
 }
 
 one_after : (m : Semantics) (s t : State) (l : Label) (sends : List Outgoing) → step m s l ≡ Some (t, sends) → state_after m s (l ∷ []) ≡ Some t
@@ -140,19 +140,19 @@ one_moment : (m : Semantics) (s t : State) (l : Label) (sends : List Outgoing) �
 one_moment m s t l sends h = rw h refl
 
 -- it is a run of one label, where the cursors, the generators and the errors go on with it
-pub did : (semantics : Semantics) (old new : Course) (l : Label) (before after : List ℕ) → DidOne semantics l old new before after → Chooses semantics (old.state, l) old.turnstiles new.turnstiles
-    → Draws semantics (old.state, l) old.generators new.generators → Rejects (old.state, l) old.errors new.errors → IsSized (length semantics.processes) l → Did semantics (l ∷ []) old new before after
+pub did : (semantics : Semantics) (old new : Course) (l : Label) (before after : Deeds) → DidOne semantics l old new before after → Chooses semantics (old.state, l) old.turnstiles new.turnstiles
+    → Draws semantics (old.state, l) old.generators new.generators → Rejects (old.state, l) old.errors new.errors → IsSized (length semantics.processes) l → Happened semantics (l ∷ []) old new before after
 did semantics old new l before after d chosen drawn rejected sized = record {
   ran = one_after semantics old.state new.state l d.sends d.ran;
   chosen = subst (λ ms. AllChoose semantics ms old.turnstiles new.turnstiles) (sym (one_moment semantics old.state new.state l d.sends d.ran)) (new.turnstiles, chosen, refl);
   drawn = subst (λ ms. AllDraw semantics ms old.generators new.generators) (sym (one_moment semantics old.state new.state l d.sends d.ran)) (new.generators, drawn, refl);
   rejected = subst (λ ms. AllReject ms old.errors new.errors) (sym (one_moment semantics old.state new.state l d.sends d.ran)) (new.errors, rejected, refl);
   sized = (sized, tt);
-  wrote = d.wrote;
+  recorded = d.recorded;
 }
 
 -- and it leaves a course
-pub course_after : (semantics : Semantics) (old new : Course) (l : Label) (before after : List ℕ) → IsCourse semantics old → DidOne semantics l old new before after
+pub course_after : (semantics : Semantics) (old new : Course) (l : Label) (before after : Deeds) → IsCourse semantics old → DidOne semantics l old new before after
     → Chooses semantics (old.state, l) old.turnstiles new.turnstiles → Draws semantics (old.state, l) old.generators new.generators → Rejects (old.state, l) old.errors new.errors → IsCourse semantics new
 course_after semantics old new l before after course d chosen drawn rejected = record {
   fits = d.fits;
@@ -181,12 +181,8 @@ plain_rejects s _ old new plain same = same
 
 -- ---- runs, one behind the other
 
-pub did_nothing : (semantics : Semantics) (course : Course) (text : List ℕ) → Did semantics [] course course text text
-did_nothing semantics course text = record { ran = refl; chosen = refl; drawn = refl; rejected = refl; sized = tt; wrote = none_wrote semantics course.state text }
-
-pub both : {A : Type 0} (P : A → Type 0) (xs ys : List A) → Each P xs → Each P ys → Each P (xs ++ ys)
-both P [] ys h k = k
-both P (x ∷ xs) ys h k = (h.0, both P xs ys h.1 k)
+pub did_nothing : (semantics : Semantics) (course : Course) (deeds : Deeds) → Happened semantics [] course course deeds deeds
+did_nothing semantics course deeds = record { ran = refl; chosen = refl; drawn = refl; rejected = refl; sized = tt; recorded = none_recorded semantics course.state deeds }
 
 pub goes_on : (m : Semantics) (s t u : State) (xs ys : List Label) → state_after m s xs ≡ Some t → state_after m t ys ≡ Some u → state_after m s (xs ++ ys) ≡ Some u
 goes_on m s t u [] ys h k = let same : s ≡ t = cc in subst (λ x. state_after m x ys ≡ Some u) (sym same) k
@@ -194,8 +190,8 @@ goes_on m s t u (l ∷ xs) ys h k =
     option_and_then_some (λ (a : After). state_after m a.0 xs) (step m s l) t h (λ after is rest.
     ap (λ (o : Option After). option_and_then (λ a. state_after m a.0 (xs ++ ys)) o) is ∙ goes_on m after.0 t u xs ys rest k)
 
-pub did_more : (semantics : Semantics) (a b c : Course) (xs ys : List Label) (before middle after : List ℕ) → Did semantics xs a b before middle → Did semantics ys b c middle after
-    → Did semantics (xs ++ ys) a c before after
+pub did_more : (semantics : Semantics) (a b c : Course) (xs ys : List Label) (before middle after : Deeds) → Happened semantics xs a b before middle → Happened semantics ys b c middle after
+    → Happened semantics (xs ++ ys) a c before after
 did_more semantics a b c xs ys before middle after d e =
     let split = moments_joined semantics a.state b.state xs ys d.ran in
     record {
@@ -206,5 +202,5 @@ did_more semantics a b c xs ys before middle after d e =
           (all_draw_joined semantics (moments semantics a.state xs) (moments semantics b.state ys) a.generators b.generators c.generators d.drawn e.drawn);
       rejected = subst (λ ms. AllReject ms a.errors c.errors) (sym split) (all_reject_joined (moments semantics a.state xs) (moments semantics b.state ys) a.errors b.errors c.errors d.rejected e.rejected);
       sized = both (IsSized (length semantics.processes)) xs ys d.sized e.sized;
-      wrote = wrote_more semantics a.state b.state xs ys before middle after d.ran d.wrote e.wrote;
+      recorded = recorded_more semantics a.state b.state xs ys before middle after d.ran d.recorded e.recorded;
     }

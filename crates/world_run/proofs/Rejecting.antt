@@ -26,10 +26,12 @@ use Rattle.abstract_run.specs.Step.{is_live, step}
 use Rattle.exact_choice.specs.Rejects.{Rejects, first_error, first_error_in}
 use Rattle.exact_choice.proofs.RejectsGoOn.{fewer_arrived, none_arrived, none_waits, reject_goes, reject_possible}
 use Rattle.world_run.specs.declared.course.Course.{Course}
+use Rattle.world_run.specs.declared.deeds.Deeds.{Deeds}
 use Rattle.world_run.specs.Served.{IsCourse}
 use Rattle.world_run.specs.inner.Serving.{DidOne, Rejected, first_of}
 use Rattle.world_run.proofs.Leaves.{reject_moves}
 use Rattle.world_run.proofs.OneLabel.{course_after, did, did_more, did_nothing}
+use Rattle.world_run.proofs.Recording.{both}
 
 -- ---- the first sender
 
@@ -91,7 +93,7 @@ pub peer_there : (m : Semantics) (s : State) (q p i : ℕ) → Fits m s → firs
 peer_there m s q p i fits e = option_and_then_some first_error_in (channel_of q p s.channels) i e (λ c is last. sender_there m s q p c fits is)
 
 -- it was rejected, and is no longer the first
-pub one_rejected : (m : Semantics) (old middle new : Course) (p q i : ℕ) (before after : List ℕ) → IsCourse m old → old.state.falling ≡ None → p < length m.processes → q < length m.processes → i < 2 ^ 32
+pub one_rejected : (m : Semantics) (old middle new : Course) (p q i : ℕ) (before after : Deeds) → IsCourse m old → old.state.falling ≡ None → p < length m.processes → q < length m.processes → i < 2 ^ 32
     → first_of old.errors p ≡ Some q → first_error old.state q p ≡ Some i → DidOne m (label.Reject q p i) old middle before after → middle.turnstiles ≡ old.turnstiles → middle.generators ≡ old.generators → middle.errors ≡ old.errors
     → IfSome (slice_get middle.errors p) (λ senders. new.errors ≡ slice_set middle.errors p (drop 1 senders)) → new.state ≡ middle.state → new.turnstiles ≡ middle.turnstiles → new.generators ≡ middle.generators → new.cells ≡ middle.cells
     → Rejected m p 1 old new before after
@@ -107,7 +109,7 @@ one_rejected m old middle new p q i before after whole settled there peer short 
       fits = subst (Fits m) (sym state) d.fits;
       cells = cells ∙ d.cells ∙ ap (λ s. cells_in s) (sym state);
       few = let few = d.few in omega (arith, few, cells);
-      wrote = d.wrote;
+      recorded = d.recorded;
     } in
     let chosen = turnstiles ∙ cursors in
     let drawn = generators ∙ draws in
@@ -126,12 +128,12 @@ one_rejected m old middle new p q i before after whole settled there peer short 
 
 -- ---- many
 
-pub none_rejected : (m : Semantics) (course : Course) (p : ℕ) (text : List ℕ) → IsCourse m course → course.state.falling ≡ None → Rejected m p 0 course course text text
-none_rejected m course p text whole settled = record {
+pub none_rejected : (m : Semantics) (course : Course) (p : ℕ) (deeds : Deeds) → IsCourse m course → course.state.falling ≡ None → Rejected m p 0 course course deeds deeds
+none_rejected m course p deeds whole settled = record {
   labels = [];
   of_process = tt;
   counted = refl;
-  did = did_nothing m course text;
+  did = did_nothing m course deeds;
   course = whole;
   settled = settled;
   down = refl;
@@ -139,11 +141,7 @@ none_rejected m course p text whole settled = record {
   few = omega arith;
 }
 
-both : {A : Type 0} (P : A → Type 0) (xs ys : List A) → Each P xs → Each P ys → Each P (xs ++ ys)
-both P [] ys h k = k
-both P (x ∷ xs) ys h k = (h.0, both P xs ys h.1 k)
-
-pub one_more_rejected : (m : Semantics) (a b c : Course) (p n : ℕ) (before middle after : List ℕ) → Rejected m p n a b before middle → Rejected m p 1 b c middle after → Rejected m p (n + 1) a c before after
+pub one_more_rejected : (m : Semantics) (a b c : Course) (p n : ℕ) (before middle after : Deeds) → Rejected m p n a b before middle → Rejected m p 1 b c middle after → Rejected m p (n + 1) a c before after
 one_more_rejected m a b c p n before middle after d e = record {
   labels = d.labels ++ e.labels;
   of_process = both (IsRejectOf p) d.labels e.labels d.of_process e.of_process;
@@ -157,14 +155,14 @@ one_more_rejected m a b c p n before middle after d e = record {
 }
 
 -- the process stays live
-pub still_live : (m : Semantics) (a b : Course) (p n : ℕ) (before after : List ℕ) → Rejected m p n a b before after → is_live a.state p ≡ true → is_live b.state p ≡ true
+pub still_live : (m : Semantics) (a b : Course) (p n : ℕ) (before after : Deeds) → Rejected m p n a b before after → is_live a.state p ≡ true → is_live b.state p ≡ true
 still_live m a b p n before after d up = ap (λ (down : List Bool). is_yes (option_map not (slice_get down p))) d.down ∙ up
 
 below_or_full : (n : ℕ) → n ≤ most_waiting → (n < most_waiting) ⊎ (n ≡ most_waiting)
 below_or_full n h = grind arith
 
 -- no error is left, where not too many cells had arrived
-pub clean : (m : Semantics) (a b : Course) (p n : ℕ) (before after : List ℕ) → Rejected m p n a b before after → n ≤ most_waiting → (n < most_waiting → slice_get b.errors p ≡ Some [])
+pub clean : (m : Semantics) (a b : Course) (p n : ℕ) (before after : Deeds) → Rejected m p n a b before after → n ≤ most_waiting → (n < most_waiting → slice_get b.errors p ≡ Some [])
     → arrived a.state p ≤ most_waiting → error_waits b.state.channels p ≡ false
 clean m a b p n before after d most left few = elim (below_or_full n most) [
   | inl below ↦ none_waits m b.state p b.errors d.course.fits d.course.errors (left below)

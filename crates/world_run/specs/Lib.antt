@@ -1,4 +1,5 @@
 pub mod Layouts
 pub mod Names
+pub mod RunsFrom
 pub mod Served
 pub mod inner

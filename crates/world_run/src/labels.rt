@@ -1,86 +1,68 @@
-//! One label: it is done where it is possible, and its lines are written.
+//! One label: it is done where it is possible, and recorded.
 
-ghost use Rattle.std.specs.Prelude.{◌≡◌, ◌+◌, ◌≤◌, [], ◌∷◌, length, IfOk, OnOk, string_bytes};
+ghost use Rattle.std.specs.Prelude.{◌≡◌, ◌+◌, ◌≤◌, [], ◌∷◌, length, IfOk, OnOk};
 ghost use Rattle.abstract_run.specs.CellCount as count;
 ghost use Rattle.abstract_run.specs.Progress.{IsPossible};
 ghost use Rattle.tap_exec.specs.Semantics.{semantics_of};
 ghost use Rattle.run_text.specs.Sized.{IsSized};
-ghost use Rattle.run_text.specs.TraceText as trace;
-ghost use Rattle.world_run.specs.Served.{Did, IsCourse};
-ghost use Rattle.abstract_run.specs.Kept.{AreFitSends};
-ghost use Rattle.world_run.specs.inner.Serving.{IsGiven, IsPlain, Tried, WroteDone, most_more, said_by};
+ghost use Rattle.exact_choice.specs.Runnable.{IsRunnable};
+ghost use Rattle.world_run.specs.Served.{Happened, IsCourse};
+ghost use Rattle.world_run.specs.inner.Serving.{IsPlain, Tried, most_more, said_by};
 
 use crate::course::Course;
+use crate::deeds::Deeds;
 use crate::given::Given;
-use crate::sends::write_sends;
-use abstract_run::{Label, Outgoing, State, StepFault, step};
-use run_text::write_label;
+use abstract_run::{Label, StepFault, step};
 use tap_base::{Guard, NoMemory, System};
 
 /// Does a label that is possible, and that leaves cursors, generators and errors as they are.
 pub(crate) fn perform(
     given: &Given<'_>,
     course: &mut Course,
-    label: &Label,
-    text: &mut String,
+    label: Label,
+    deeds: &mut Deeds,
 ) -> Result<(), NoMemory>
-    requires given { IsGiven given.now }
+    requires runnable { IsRunnable given.now.system.now }
     requires course { IsCourse (said_by given.now) course.old }
     requires room { course.old.cells ≤ 100000 }
-    requires possible { IsPossible (said_by given.now) course.old.state label.now }
-    requires plain { IsPlain label.now }
-    requires sized { IsSized (length (said_by given.now).processes) label.now }
-    ensures did { OnOk result (Did (said_by given.now) (label.now ∷ []) course.old course.new (string_bytes text.old) (string_bytes text.new)) }
+    requires possible { IsPossible (said_by given.now) course.old.state label }
+    requires plain { IsPlain label }
+    requires sized { IsSized (length (said_by given.now).processes) label }
+    ensures did { OnOk result (Happened (said_by given.now) (label ∷ []) course.old course.new deeds.old deeds.new) }
     ensures course { OnOk result (IsCourse (said_by given.now) course.new) }
-    ensures cells { OnOk result (course.new.cells ≤ course.old.cells + most_more label.now) }
+    ensures cells { OnOk result (course.new.cells ≤ course.old.cells + most_more label) }
 {
-    if !attempt(given, course, label, text)? {
+    if !attempt(given, course, label, deeds)? {
         unreachable!();
     }
     Ok(())
 }
 
-/// Does a label where it is possible, and appends its lines. Answers whether it was possible. Cursors,
+/// Does a label where it is possible, and records it. Answers whether it was possible. Cursors,
 /// generators and errors are left to the caller.
 pub(crate) fn attempt(
     given: &Given<'_>,
     course: &mut Course,
-    label: &Label,
-    text: &mut String,
+    label: Label,
+    deeds: &mut Deeds,
 ) -> Result<bool, NoMemory>
-    requires given { IsGiven given.now }
+    requires runnable { IsRunnable given.now.system.now }
     requires course { IsCourse (said_by given.now) course.old }
     requires room { course.old.cells ≤ 100000 }
-    ensures tried { IfOk result (λ done. Tried (said_by given.now) label.now course.old course.new (string_bytes text.old) done (string_bytes text.new)) }
+    ensures tried { IfOk result (λ done. Tried (said_by given.now) label course.old course.new deeds.old done deeds.new) }
     ensures turnstiles { course.new.turnstiles ≡ course.old.turnstiles }
     ensures generators { course.new.generators ≡ course.old.generators }
     ensures errors { course.new.errors ≡ course.old.errors }
 {
-    match step(given.alloc, given.system, &mut course.state, label) {
+    match step(given.alloc, given.system, &mut course.state, &label) {
         Ok(sends) => {
-            course.cells = cells_behind(given.system, label, course.cells, sends.len());
-            write_done(given, &course.state, label, sends.as_slice(), text)?;
+            course.cells = cells_behind(given.system, &label, course.cells, sends.len());
+            deeds.keep(label, &course.state, sends)?;
             Ok(true)
         }
         Err(StepFault::NotEnabled) => Ok(false),
         Err(StepFault::NoMemory) => Err(NoMemory),
     }
-}
-
-/// Appends the line of a label that was done, and the lines of those of its sends that went out.
-pub(crate) fn write_done(
-    given: &Given<'_>,
-    state: &State,
-    label: &Label,
-    sends: &[Outgoing],
-    text: &mut String,
-) -> Result<(), NoMemory>
-    requires given { IsGiven given.now }
-    requires fit { AreFitSends (said_by given.now) label.now sends.now }
-    ensures { OnOk result (WroteDone (said_by given.now) label.now state.now sends.now (string_bytes text.old) (string_bytes text.new)) }
-{
-    write_label(text, given.names, label)?;
-    write_sends(text, given, went_out(state, sends))
 }
 
 /// How many cells stand in the channels behind a label, with so many before it, and so many sends.
@@ -140,15 +122,4 @@ fn cells_received(system: &System, process: u32, action: u32) -> usize
         Guard::Receive { .. } => 1,
         _ => 0,
     }
-}
-
-/// Those of the sends of an action that went out: where its cut fell, the ones before it.
-fn went_out<'a>(state: &State, sends: &'a [Outgoing]) -> &'a [Outgoing]
-    ensures { result.now ≡ trace.went_out (state.now, sends.now) }
-{
-    let failed = match &state.falling {
-        Some(falling) => falling.receivers.len(),
-        None => 0,
-    };
-    &sends[..sends.len().saturating_sub(failed)]
 }

@@ -1,6 +1,6 @@
 //! The errors that have arrived, and that a turn rejects.
 
-ghost use Rattle.std.specs.Prelude.{◌≡◌, ◌+◌, ◌≤◌, ◌<◌, [], ◌∷◌, true, None, Some, length, slice_get, IfOk, OnOk, IfSome, drop, position, slice_set, string_bytes};
+ghost use Rattle.std.specs.Prelude.{◌≡◌, ◌+◌, ◌≤◌, ◌<◌, [], ◌∷◌, true, None, Some, length, slice_get, IfOk, OnOk, IfSome, drop, position, slice_set};
 ghost use Rattle.std.specs.Option.{option_copied};
 ghost use Rattle.abstract_run.specs.Answers.{most_waiting};
 ghost use Rattle.abstract_run.specs.Channels as channels;
@@ -10,10 +10,12 @@ ghost use Rattle.abstract_run.specs.inner.Among.{HasChannels};
 ghost use Rattle.tap_base.specs.Lists.{Each};
 ghost use Rattle.tap_exec.specs.Semantics.{semantics_of};
 ghost use Rattle.exact_choice.specs.Rejects as spec;
+ghost use Rattle.exact_choice.specs.Runnable.{IsRunnable};
 ghost use Rattle.world_run.specs.Served.{IsCourse};
-ghost use Rattle.world_run.specs.inner.Serving.{IsGiven, Rejected, first_of, said_by};
+ghost use Rattle.world_run.specs.inner.Serving.{Rejected, first_of, said_by};
 
 use crate::course::Course;
+use crate::deeds::Deeds;
 use crate::given::Given;
 use crate::labels::attempt;
 use abstract_run::{Cell, Channel, Label, State};
@@ -49,14 +51,14 @@ pub(crate) fn reject_arrived(
     given: &Given<'_>,
     course: &mut Course,
     process: u32,
-    text: &mut String,
+    deeds: &mut Deeds,
 ) -> Result<u32, NoMemory>
-    requires given { IsGiven given.now }
+    requires runnable { IsRunnable given.now.system.now }
     requires course { IsCourse (said_by given.now) course.old }
     requires settled { course.old.state.falling ≡ None }
     requires live { is_live course.old.state process ≡ true }
     requires room { course.old.cells ≤ 100000 }
-    ensures rejected { IfOk result (λ n. Rejected (said_by given.now) process n course.old course.new (string_bytes text.old) (string_bytes text.new)) }
+    ensures rejected { IfOk result (λ n. Rejected (said_by given.now) process n course.old course.new deeds.old deeds.new) }
     ensures at_most { IfOk result (λ n. n ≤ most_waiting) }
     ensures none_left { IfOk result (λ n. n < most_waiting → slice_get course.new.errors process ≡ Some []) }
 {
@@ -64,7 +66,7 @@ pub(crate) fn reject_arrived(
         let Some(from) = first_sender(&course.errors, process) else {
             return Ok(rejects);
         };
-        reject(given, course, from, process, text)?;
+        reject(given, course, from, process, deeds)?;
     }
     Ok(MOST_REJECTS)
 }
@@ -84,15 +86,15 @@ fn reject(
     course: &mut Course,
     from: u32,
     process: u32,
-    text: &mut String,
+    deeds: &mut Deeds,
 ) -> Result<(), NoMemory>
-    requires given { IsGiven given.now }
+    requires runnable { IsRunnable given.now.system.now }
     requires course { IsCourse (said_by given.now) course.old }
     requires settled { course.old.state.falling ≡ None }
     requires live { is_live course.old.state process ≡ true }
     requires room { course.old.cells ≤ 100000 }
     requires first { first_of course.old.errors process ≡ Some from }
-    ensures { OnOk result (Rejected (said_by given.now) process 1 course.old course.new (string_bytes text.old) (string_bytes text.new)) }
+    ensures { OnOk result (Rejected (said_by given.now) process 1 course.old course.new deeds.old deeds.new) }
 {
     let Some(place) = first_error(&course.state, from, process) else {
         unreachable!();
@@ -102,7 +104,7 @@ fn reject(
         to: process,
         place,
     };
-    if !attempt(given, course, &label, text)? {
+    if !attempt(given, course, label, deeds)? {
         unreachable!();
     }
     take_first(&mut course.errors, process);

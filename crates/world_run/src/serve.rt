@@ -1,13 +1,15 @@
 //! The events of a schedule.
 
-ghost use Rattle.std.specs.Prelude.{◌≡◌, ◌≤◌, ◌+◌, [], ◌∷◌, length, IfOk, OnOk, string_bytes};
+ghost use Rattle.std.specs.Prelude.{◌≡◌, ◌≤◌, ◌+◌, [], ◌∷◌, length, IfOk, OnOk};
 ghost use Rattle.abstract_run.specs.Answers.{or_void};
+ghost use Rattle.exact_choice.specs.Runnable.{IsRunnable};
 ghost use Rattle.run_text.specs.ScheduleText.{AreTwo};
 ghost use Rattle.run_text.specs.Sized.{IsSized};
-ghost use Rattle.world_run.specs.Served.{Did, IsCourse, IsSteady, NamesProcesses, Served, full_from};
-ghost use Rattle.world_run.specs.inner.Serving.{IsGiven, IsPlain, label_of, said_by};
+ghost use Rattle.world_run.specs.Served.{Happened, IsCourse, IsSteady, NamesProcesses, TookPlace, full_from};
+ghost use Rattle.world_run.specs.inner.Serving.{IsPlain, label_of, said_by};
 
 use crate::course::Course;
+use crate::deeds::Deeds;
 use crate::given::Given;
 use crate::labels::{attempt, perform};
 use crate::rejects::{arrives_bad, one_more};
@@ -16,27 +18,27 @@ use abstract_run::{Event, Label};
 use std::alloc::Global;
 use tap_base::{Bytes, NoMemory};
 
-/// Does the labels of an event, and appends their lines.
+/// Does the labels of an event, and records them.
 pub(crate) fn serve_event(
     given: &Given<'_>,
     course: &mut Course,
     event: &Event,
-    text: &mut String,
+    deeds: &mut Deeds,
 ) -> Result<(), NoMemory>
-    requires given { IsGiven given.now }
+    requires runnable { IsRunnable given.now.system.now }
     requires steady { IsSteady (said_by given.now) course.old }
     requires room { course.old.cells ≤ full_from }
     requires named { NamesProcesses (length given.now.system.now.processes) event.now }
-    ensures served { OnOk result (Served (said_by given.now) event.now course.old course.new (string_bytes text.old) (string_bytes text.new)) }
+    ensures served { OnOk result (TookPlace (said_by given.now) event.now course.old course.new deeds.old deeds.new) }
     ensures steady { OnOk result (IsSteady (said_by given.now) course.new) }
     ensures cells { OnOk result (course.new.cells ≤ course.old.cells + 64) }
 {
     match event {
-        Event::Turn { process, reading } => turn(given, course, *process, *reading, text),
-        Event::Arrive { from, to } => arrive(given, course, *from, *to, text),
+        Event::Turn { process, reading } => turn(given, course, *process, *reading, deeds),
+        Event::Arrive { from, to } => arrive(given, course, *from, *to, deeds),
         _ => {
             let label = copy_label(given.alloc, event)?;
-            try_plain(given, course, &label, text)
+            try_plain(given, course, label, deeds)
         }
     }
 }
@@ -100,22 +102,22 @@ fn copy_label(alloc: Global, event: &Event) -> Result<Label, NoMemory>
 fn try_plain(
     given: &Given<'_>,
     course: &mut Course,
-    label: &Label,
-    text: &mut String,
+    label: Label,
+    deeds: &mut Deeds,
 ) -> Result<(), NoMemory>
-    requires given { IsGiven given.now }
+    requires runnable { IsRunnable given.now.system.now }
     requires steady { IsSteady (said_by given.now) course.old }
     requires room { course.old.cells ≤ full_from }
-    requires plain { IsPlain label.now }
-    requires sized { IsSized (length (said_by given.now).processes) label.now }
-    ensures did { OnOk result (Did (said_by given.now) (or_void (said_by given.now) course.old.state label.now ∷ []) course.old course.new (string_bytes text.old) (string_bytes text.new)) }
+    requires plain { IsPlain label }
+    requires sized { IsSized (length (said_by given.now).processes) label }
+    ensures did { OnOk result (Happened (said_by given.now) (or_void (said_by given.now) course.old.state label ∷ []) course.old course.new deeds.old deeds.new) }
     ensures course { OnOk result (IsCourse (said_by given.now) course.new) }
     ensures cells { OnOk result (course.new.cells ≤ course.old.cells + 64) }
 {
-    if attempt(given, course, label, text)? {
+    if attempt(given, course, label, deeds)? {
         return Ok(());
     }
-    perform(given, course, &Label::Void, text)
+    perform(given, course, Label::Void, deeds)
 }
 
 /// An arrival, or nothing where no datagram is in flight. An error that arrives is the last of those
@@ -125,19 +127,19 @@ fn arrive(
     course: &mut Course,
     from: u32,
     to: u32,
-    text: &mut String,
+    deeds: &mut Deeds,
 ) -> Result<(), NoMemory>
-    requires given { IsGiven given.now }
+    requires runnable { IsRunnable given.now.system.now }
     requires steady { IsSteady (said_by given.now) course.old }
     requires room { course.old.cells ≤ full_from }
     requires two { AreTwo (length given.now.system.now.processes) from to }
-    ensures did { OnOk result (Did (said_by given.now) (or_void (said_by given.now) course.old.state (Label.Arrive from to) ∷ []) course.old course.new (string_bytes text.old) (string_bytes text.new)) }
+    ensures did { OnOk result (Happened (said_by given.now) (or_void (said_by given.now) course.old.state (Label.Arrive from to) ∷ []) course.old course.new deeds.old deeds.new) }
     ensures course { OnOk result (IsCourse (said_by given.now) course.new) }
     ensures cells { OnOk result (course.new.cells ≤ course.old.cells + 64) }
 {
     let bad = arrives_bad(&course.state, from, to);
-    if !attempt(given, course, &Label::Arrive { from, to }, text)? {
-        return perform(given, course, &Label::Void, text);
+    if !attempt(given, course, Label::Arrive { from, to }, deeds)? {
+        return perform(given, course, Label::Void, deeds);
     }
     if bad {
         one_more(&mut course.errors, from, to)?;

@@ -1,17 +1,18 @@
 //! A turn of a process.
 
-ghost use Rattle.std.specs.Prelude.{◌≡◌, ◌+◌, ◌≤◌, ◌<◌, [], true, None, Some, length, slice_get, IfOk, IfSome, OnOk, string_bytes};
+ghost use Rattle.std.specs.Prelude.{◌≡◌, ◌+◌, ◌≤◌, ◌<◌, [], true, None, Some, length, slice_get, IfOk, IfSome, OnOk};
 ghost use Rattle.abstract_run.specs.Answers.{most_waiting};
 ghost use Rattle.abstract_run.specs.Fits.{Fits};
 ghost use Rattle.exact_choice.specs.Runnable.{IsRunnable};
 ghost use Rattle.abstract_run.specs.Step.{is_live, is_zero};
 ghost use Rattle.exact_choice.specs.Choice.{AreCursorsOf};
 ghost use Rattle.tap_exec.specs.Semantics.{semantics_of};
-ghost use Rattle.world_run.specs.Served.{Did, IsCourse, IsSteady, Served, full_from};
-ghost use Rattle.world_run.specs.inner.Serving.{AreEnabled, Chose, Ended, IsGiven, action_count, fall_labels, said_by};
+ghost use Rattle.world_run.specs.Served.{Happened, IsCourse, IsSteady, TookPlace, full_from};
+ghost use Rattle.world_run.specs.inner.Serving.{AreEnabled, Chose, Ended, action_count, fall_labels, said_by};
 
 use crate::acts::act;
 use crate::course::Course;
+use crate::deeds::Deeds;
 use crate::given::Given;
 use crate::labels::perform;
 use crate::rejects::{MOST_REJECTS, reject_arrived};
@@ -26,27 +27,27 @@ pub(crate) fn turn(
     course: &mut Course,
     process: u32,
     reading: u64,
-    text: &mut String,
+    deeds: &mut Deeds,
 ) -> Result<(), NoMemory>
-    requires given { IsGiven given.now }
+    requires runnable { IsRunnable given.now.system.now }
     requires steady { IsSteady (said_by given.now) course.old }
     requires room { course.old.cells ≤ full_from }
     requires there { process < length given.now.system.now.processes }
-    ensures served { OnOk result (Served (said_by given.now) (Event.Turn process reading) course.old course.new (string_bytes text.old) (string_bytes text.new)) }
+    ensures served { OnOk result (TookPlace (said_by given.now) (Event.Turn process reading) course.old course.new deeds.old deeds.new) }
     ensures steady { OnOk result (IsSteady (said_by given.now) course.new) }
     ensures cells { OnOk result (course.new.cells ≤ course.old.cells + 64) }
 {
     if is_down(&course.state, process) {
-        return perform(given, course, &Label::Down { process }, text);
+        return perform(given, course, Label::Down { process }, deeds);
     }
     let cut_off = is_cut_off(&course.state, process);
-    perform(given, course, &Label::Tick { process, reading }, text)?;
+    perform(given, course, Label::Tick { process, reading }, deeds)?;
     if cut_off {
         let receivers = List::new(given.alloc);
-        return perform(given, course, &Label::Stop { process, receivers }, text);
+        return perform(given, course, Label::Stop { process, receivers }, deeds);
     }
-    let rejects = reject_arrived(given, course, process, text)?;
-    end_turn(given, course, process, rejects, text)
+    let rejects = reject_arrived(given, course, process, deeds)?;
+    end_turn(given, course, process, rejects, deeds)
 }
 
 fn is_down(state: &State, process: u32) -> bool
@@ -75,30 +76,30 @@ fn end_turn(
     course: &mut Course,
     process: u32,
     rejects: u32,
-    text: &mut String,
+    deeds: &mut Deeds,
 ) -> Result<(), NoMemory>
-    requires given { IsGiven given.now }
+    requires runnable { IsRunnable given.now.system.now }
     requires steady { IsSteady (said_by given.now) course.old }
     requires live { is_live course.old.state process ≡ true }
     requires room { course.old.cells ≤ full_from }
     requires there { process < length given.now.system.now.processes }
     requires at_most { rejects ≤ most_waiting }
     requires none_left { rejects < most_waiting → slice_get course.old.errors process ≡ Some [] }
-    ensures { OnOk result (Ended (said_by given.now) process rejects course.old course.new (string_bytes text.old) (string_bytes text.new)) }
+    ensures { OnOk result (Ended (said_by given.now) process rejects course.old course.new deeds.old deeds.new) }
 {
     match choose(given, course, process)? {
         Some(action) => {
-            act(given, course, process, action, text)?;
-            stop_fallen(given, course, text)
+            act(given, course, process, action, deeds)?;
+            stop_fallen(given, course, deeds)
         }
-        None if rejects < MOST_REJECTS => perform(given, course, &Label::Idle { process }, text),
-        None => perform(given, course, &Label::Flood { process }, text),
+        None if rejects < MOST_REJECTS => perform(given, course, Label::Idle { process }, deeds),
+        None => perform(given, course, Label::Flood { process }, deeds),
     }
 }
 
 /// The next enabled action of a process, by its turnstile.
 fn choose(given: &Given<'_>, course: &mut Course, process: u32) -> Result<Option<u32>, NoMemory>
-    requires given { IsGiven given.now }
+    requires runnable { IsRunnable given.now.system.now }
     requires course { IsCourse (said_by given.now) course.old }
     requires there { process < length given.now.system.now.processes }
     ensures chose { IfOk result (λ action. Chose (said_by given.now) course.old.state process course.old.turnstiles action course.new.turnstiles) }
@@ -136,11 +137,11 @@ fn action_count(system: &System, process: u32) -> u32
 }
 
 /// The stop of a process whose link failed within its action, where one did.
-fn stop_fallen(given: &Given<'_>, course: &mut Course, text: &mut String) -> Result<(), NoMemory>
-    requires given { IsGiven given.now }
+fn stop_fallen(given: &Given<'_>, course: &mut Course, deeds: &mut Deeds) -> Result<(), NoMemory>
+    requires runnable { IsRunnable given.now.system.now }
     requires course { IsCourse (said_by given.now) course.old }
     requires room { course.old.cells ≤ 100000 }
-    ensures did { OnOk result (Did (said_by given.now) (fall_labels course.old.state.falling) course.old course.new (string_bytes text.old) (string_bytes text.new)) }
+    ensures did { OnOk result (Happened (said_by given.now) (fall_labels course.old.state.falling) course.old course.new deeds.old deeds.new) }
     ensures steady { OnOk result (IsSteady (said_by given.now) course.new) }
     ensures cells { OnOk result (course.new.cells ≤ course.old.cells) }
 {
@@ -149,5 +150,5 @@ fn stop_fallen(given: &Given<'_>, course: &mut Course, text: &mut String) -> Res
     };
     let process = falling.process;
     let receivers = List::from_slice(given.alloc, falling.receivers.as_slice())?;
-    perform(given, course, &Label::Stop { process, receivers }, text)
+    perform(given, course, Label::Stop { process, receivers }, deeds)
 }

@@ -1,6 +1,6 @@
 //! A system, and how far a run of it has come.
 
-ghost use Rattle.std.specs.Prelude.{◌≡◌, ◌≤◌, ◌+◌, length, IfOk, OnOk, string_bytes};
+ghost use Rattle.std.specs.Prelude.{◌≡◌, ◌≤◌, ◌+◌, length, IfOk, OnOk, string_bytes, ℕ, Err};
 ghost use Rattle.tap_base.specs.Wires.{wire_of};
 ghost use Rattle.abstract_run.specs.CellCount.{cells_in};
 ghost use Rattle.abstract_run.specs.Fits.{InputsFit};
@@ -13,9 +13,10 @@ ghost use Rattle.exact_choice.specs.Rejects.{opening_errors};
 ghost use Rattle.run_text.specs.TraceText.{last_lines, lines_text};
 ghost use Rattle.world_run.specs.Layouts.{HasLayout};
 ghost use Rattle.world_run.specs.Names.{AreNamesOf};
-ghost use Rattle.world_run.specs.Served.{Answers, GoesOn, NamesProcesses};
+ghost use Rattle.world_run.specs.Served.{Answers, AnswersEvent, GoesOn, NamesProcesses, no_deeds};
 
 use crate::course::Course;
+use crate::deeds::Deeds;
 use crate::fault::WorldFault;
 use crate::generators::generators_of;
 use crate::given::Given;
@@ -23,7 +24,8 @@ use crate::layouts::layout_of;
 use crate::rejects::no_errors;
 use crate::serve::serve_event;
 use crate::turnstiles::turnstiles_of;
-use abstract_run::{Event, init};
+use crate::writing::write_last;
+use abstract_run::{Event, Label, Outgoing, init};
 use message_layout::Layout;
 use run_text::{Names, write_all_vars};
 use std::alloc::Global;
@@ -41,6 +43,8 @@ pub struct World {
     /// How the messages of the system are written as bytes.
     pub layout: Layout,
     pub course: Course,
+    /// What the last event did that was served.
+    pub last: Deeds,
 }
 
 impl World {
@@ -58,6 +62,7 @@ impl World {
         ensures errors { IfOk result (λ w. w.course.errors ≡ opening_errors (semantics_of system)) }
         ensures goes_on { IfOk result (λ w. GoesOn w) }
         ensures no_cells { IfOk result (λ w. w.course.cells ≡ 0) }
+        ensures last { IfOk result (λ w. w.last ≡ no_deeds) }
     {
         let state = init(alloc, &system, inputs)?;
         let turnstiles = turnstiles_of(alloc, &system)?;
@@ -75,7 +80,55 @@ impl World {
                 errors,
                 cells: 0,
             },
+            last: Deeds::new(alloc),
         })
+    }
+
+    /// Serves an event, and records what it did. An event that cannot happen is one in which nothing
+    /// does. It names processes of the system, two different ones where it names two.
+    ///
+    /// # Errors
+    ///
+    /// `Full` exactly where more than 99,936 cells stand in the channels; nothing changes. `NoMemory`:
+    /// what is recorded stays, but the world is one within the event, and cannot go on.
+    pub fn event(&mut self, alloc: Global, event: &Event) -> Result<(), WorldFault>
+        requires goes_on { GoesOn self.old }
+        requires named { NamesProcesses (length self.old.system.processes) event.now }
+        ensures system { self.new.system ≡ self.old.system }
+        ensures seed { self.new.seed ≡ self.old.seed }
+        ensures layout { self.new.layout ≡ self.old.layout }
+        ensures answers { AnswersEvent (semantics_of self.old.system) event.now self.old.course self.old.last result self.new.course self.new.last }
+        ensures goes_on { OnOk result (GoesOn self.new) }
+        ensures cells { OnOk result (self.new.course.cells ≤ self.old.course.cells + 64) }
+        ensures full { (cells : ℕ) → result ≡ Err (WorldFault.Full cells) → GoesOn self.new }
+    {
+        if self.course.cells > MOST_CELLS {
+            return Err(WorldFault::Full {
+                cells: self.course.cells,
+            });
+        }
+        let given = Given {
+            alloc,
+            system: &self.system,
+        };
+        let mut deeds = Deeds::new(alloc);
+        serve_event(&given, &mut self.course, event, &mut deeds)?;
+        self.last = deeds;
+        Ok(())
+    }
+
+    /// The labels of the last event that was served, in order; none before the first.
+    pub fn labels_of_last(&self) -> &[Label]
+        ensures { result.now ≡ self.now.last.labels }
+    {
+        self.last.labels.as_slice()
+    }
+
+    /// What went out in the last event that was served, in order.
+    pub fn sent_in_last(&self) -> &[Outgoing]
+        ensures { result.now ≡ self.now.last.sent }
+    {
+        self.last.sent.as_slice()
     }
 
     /// How many cells stand in the channels.
@@ -119,19 +172,9 @@ impl World {
         ensures goes_on { OnOk result (GoesOn self.new) }
         ensures cells { OnOk result (self.new.course.cells ≤ self.old.course.cells + 64) }
     {
-        if self.course.cells > MOST_CELLS {
-            return Err(WorldFault::Full {
-                cells: self.course.cells,
-            });
-        }
-        let given = Given {
-            alloc,
-            system: &self.system,
-            layout: &self.layout,
-            names,
-        };
+        self.event(alloc, event)?;
         let mut text = String::new(alloc);
-        serve_event(&given, &mut self.course, event, &mut text)?;
+        write_last(self, names, &mut text)?;
         page.extend_from_slice(text.as_bytes())?;
         Ok(())
     }

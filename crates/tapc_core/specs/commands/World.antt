@@ -1,7 +1,5 @@
 -- The command `world`: a run of a system on a schedule, with the inputs and the seed that settings give.
 use Rattle.std.specs.Prelude.{◌≡◌, ◌⊎◌, ⊤, ℕ, ◌+◌, ◌<◌, List, [], ◌∷◌, ◌++◌, length, Some}
-use Rattle.tap_base.specs.declared.system.Inputs.{Inputs}
-use Rattle.tap_base.specs.declared.system.System.{System}
 use Rattle.abstract_run.specs.CellCount.{cells_in}
 use Rattle.abstract_run.specs.Opening.{opening_state}
 use Rattle.tap_exec.specs.Semantics.{semantics_of}
@@ -9,19 +7,14 @@ use Rattle.abstract_run.specs.declared.label.Event.{Event}
 use Rattle.run_text.specs.OneTrace.{IsTraceOf}
 use Rattle.run_text.specs.ScheduleText.{BeginsSchedule, GoesOnAfter, MeetsEvent, SpellsSchedule}
 use Rattle.run_text.specs.TraceText.{names_in}
-use Rattle.tap_front.specs.Accepting.{Accepted}
 use Rattle.tap_front.specs.Offences.{Offends}
-use Rattle.tap_settings.specs.GivenInputs.{inputs_given}
-use Rattle.tap_settings.specs.Lines.{refused_setting_line}
-use Rattle.tap_base.specs.ListWords.{first}
-use Rattle.tap_settings.specs.Offences.{settings_offences}
 use Rattle.tap_settings.specs.SettingText.{Assignment}
-use Rattle.tap_settings.specs.declared.refusals.SettingRefusal.{SettingRefusal}
 use Rattle.tapc_core.specs.Command.{Command, Contents}
 use Rattle.tapc_core.specs.Lines.{bad_line, full_line, no_memory_line, read_fault_line}
-use Rattle.tapc_core.specs.Run.{HoldsSystem, IsOfSchedule, Played, Task, lines_of}
+use Rattle.tapc_core.specs.Run.{IsOfSchedule, Played, Task, lines_of}
 use Rattle.world_run.specs.Served.{full_from}
-use Rattle.tapc_core.specs.commands.Text.{HasOffence, HasSystem, IsRefusal, leaves_refused}
+use Rattle.tapc_core.specs.commands.Settings.{HasInputs, HasMisset, IsUnset}
+use Rattle.tapc_core.specs.commands.Text.{HasOffence, leaves_refused}
 use Rattle.tapc_core.specs.declared.status.Status.{Status}
 use Rattle.tapc_core.specs.declared.status.Status.TheVariants.{Done, Refused, BadSchedule, ReadFault, WriteFault, NoMemory, WorldFull}
 
@@ -66,21 +59,9 @@ pub record IsUnfinished (task : Task) (bytes : List ℕ) : Type 0 where
   pub shown : (front ≡ []) ⊎ IsFrontOfTrace task front
   pub is : bytes ≡ front ++ no_memory_line
 
--- The first offence that the settings have for the system which the file holds.
-pub record Missets (task : Task) (refusal : SettingRefusal) : Type 0 where
-  pub system : System
-  pub holds : HoldsSystem task.text system
-  pub is : first (settings_offences system task.settings) ≡ Some refusal
-
--- The line of that offence.
-pub record IsMisset (task : Task) (bytes : List ℕ) : Type 0 where
-  pub refusal : SettingRefusal
-  pub offence : Missets task refusal
-  pub is : bytes ≡ refused_setting_line refusal
-
 abbrev pub OfWorld : Task → Status → List ℕ → Type 0
 OfWorld task Done bytes = IsTrace task bytes
-OfWorld task Refused bytes = IsRefusal Offends task.text bytes ⊎ IsMisset task bytes
+OfWorld task Refused bytes = IsUnset task.text task.settings bytes
 OfWorld task BadSchedule bytes = IsBadTrace task bytes
 OfWorld task ReadFault bytes = bytes ≡ read_fault_line
 OfWorld task WorldFull bytes = IsFullTrace task bytes
@@ -111,19 +92,11 @@ IsPlayed _ = ⊥
 -- Told files: the text is accepted as a system, the settings give it inputs, and the schedule is of this kind for it and
 -- some events.
 pub record HasSchedule (Kind : List (List ℕ) → List ℕ → List Event → Type 0) (task : Task) : Type 0 where
-  pub text : HasSystem Accepted task.text
-  pub inputs : Inputs
-  pub given : inputs_given text.system task.settings ≡ Some inputs
+  pub start : HasInputs task.text task.settings
   pub schedule : List ℕ
   pub schedule_is : task.schedule ≡ Some schedule
   pub events : List Event
-  pub kind : Kind (names_in (semantics_of text.system)) schedule events
-
--- A told text is accepted as a system, and the settings have an offence for it.
-pub record HasMisset (task : Task) : Type 0 where
-  pub text : HasSystem Accepted task.text
-  pub refusal : SettingRefusal
-  pub is : first (settings_offences text.system task.settings) ≡ Some refusal
+  pub kind : Kind (names_in (semantics_of start.text.system)) schedule events
 
 -- No event of the schedule is reached with more than 99,936 cells.
 abbrev pub IsNeverFull : Task → Type 0
@@ -133,7 +106,7 @@ pub data WorldIsSure (task : Task) : Status → Type 0 where
   plays : HasSchedule SpellsSchedule task → IsNeverFull task → WorldIsSure task Done
   stops : HasSchedule GoesOnAfter task → IsNeverFull task → WorldIsSure task BadSchedule
   refuses : HasOffence Offends task.text → WorldIsSure task Refused
-  missets : HasMisset task → WorldIsSure task Refused
+  missets : HasMisset task.text task.settings → WorldIsSure task Refused
 
 -- ---- the command
 

@@ -6,6 +6,7 @@ use Rattle.tap_base.specs.declared.system.Inputs.{Inputs}
 use Rattle.tap_base.specs.declared.system.System.{System}
 use Rattle.tap_exec.specs.Semantics.{Semantics, semantics_of}
 use Rattle.abstract_run.specs.CellCount.{cells_in}
+use Rattle.world_run.specs.RunsFrom.{IsRunFrom}
 use Rattle.world_run.specs.Served.{full_from}
 use Rattle.abstract_run.specs.declared.label.Event.{Event}
 use Rattle.abstract_run.specs.declared.label.Label.{Label}
@@ -14,7 +15,7 @@ use Rattle.run_text.specs.ScheduleText.{AreListed, BeginsBadly, IsFirstLine, IsL
 use Rattle.run_text.specs.Sized.{IsSized}
 use Rattle.run_text.specs.TraceText.{lines_text, names_in, run_lines}
 use Rattle.link_trait.specs.Outside.{Rose}
-use Rattle.tapc_core.specs.Run.{FileGives, IsRunFrom, Task}
+use Rattle.tapc_core.specs.Run.{FileGives, Task}
 use Rattle.tapc_core.specs.declared.lines.Stop.{Stop}
 use Rattle.tapc_core.specs.declared.lines.Stop.TheVariants as stop
 use Rattle.world_run.specs.declared.fault.WorldFault.{WorldFault}

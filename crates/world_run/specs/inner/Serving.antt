@@ -1,10 +1,10 @@
 -- How a world serves an event, label by label.
-use Rattle.std.specs.Prelude.{◌≡◌, ℕ, ◌<◌, ◌≤◌, ◌+◌, Bool, true, false, List, [], ◌∷◌, ◌++◌, ℤ, FitsSigned, length, map, slice_get, slice_set, Option, Some, None}
+use Rattle.std.specs.Prelude.{◌≡◌, ℕ, ◌<◌, ◌≤◌, ◌+◌, Bool, true, false, List, [], ◌∷◌, ◌++◌, ℤ, FitsSigned, length, slice_get, slice_set, Option, Some, None}
 use Rattle.std.specs.Int.{w64}
 use Rattle.std.specs.Option.{option_map}
 use Rattle.tap_base.specs.declared.system.System.{System}
 use Rattle.tap_base.specs.Lists.{Each}
-use Rattle.tap_base.specs.Option.{◌>>=◌, each}
+use Rattle.tap_base.specs.Option.{◌>>=◌}
 use Rattle.tap_exec.specs.declared.running.Outgoing.{Outgoing}
 use Rattle.tap_exec.specs.Semantics.{Semantics, semantics_of}
 use Rattle.abstract_run.specs.declared.label.Event.{Event}
@@ -17,48 +17,29 @@ use Rattle.abstract_run.specs.Answers.{EndsTurn, IsRejectOf, arrived}
 use Rattle.abstract_run.specs.CellCount.{cells_in}
 use Rattle.abstract_run.specs.Enabled.{is_enabled}
 use Rattle.abstract_run.specs.Fits.{Fits}
-use Rattle.exact_choice.specs.Runnable.{IsRunnable}
 use Rattle.abstract_run.specs.Step.{step}
 use Rattle.rand_pcg.specs.Lcg.{Lcg}
 use Rattle.guard_scheduler.specs.Cursor.{Cursor}
 use Rattle.guard_scheduler.specs.Turnstile.{Picks}
 use Rattle.exact_choice.specs.Choice.{ChoosesAct}
 use Rattle.exact_choice.specs.Draws.{DrawsAct}
-use Rattle.run_text.specs.TraceText.{Datagram, datagram, label_line, lines_text, names_in, sent_line, went_out}
+use Rattle.run_text.specs.TraceText.{went_out}
 use Rattle.world_run.specs.declared.course.Course.{Course}
+use Rattle.world_run.specs.declared.deeds.Deeds.{Deeds}
 use Rattle.world_run.specs.declared.given.Given.{Given}
-use Rattle.world_run.specs.Layouts.{IsLayoutOf}
-use Rattle.world_run.specs.Names.{AreNamesOf}
-use Rattle.world_run.specs.Served.{Did, IsCourse, WroteLines}
+use Rattle.world_run.specs.Served.{Happened, IsCourse, Recorded}
 
 -- ---- what is given
 
 abbrev pub said_by : Given → Semantics
 said_by given = semantics_of given.system.now
 
--- The system can be run, and the layout and the names are of it.
-pub record IsGiven (given : Given) : Type 0 where
-  pub runnable : IsRunnable given.system.now
-  pub layout : IsLayoutOf given.system.now given.layout.now
-  pub names : AreNamesOf (said_by given) given.names.now
+-- ---- what is recorded
 
--- ---- lines
-
--- the text of the lines of sends; none where a message is not declared
-abbrev pub sends_text : Semantics → List Outgoing → Option (List ℕ)
-sends_text semantics sends = option_map (λ (ds : List Datagram). lines_text (map (sent_line (names_in semantics)) ds)) (each (datagram semantics) sends)
-
--- What is expected was written behind a text.
-pub record Wrote (expected : Option (List ℕ)) (before after : List ℕ) : Type 0 where
-  pub lines : List ℕ
-  pub shown : expected ≡ Some lines
-  pub told : after ≡ before ++ lines
-
--- The line of a label was written behind a text, and then those of the sends that went out.
-pub record WroteDone (semantics : Semantics) (l : Label) (new : State) (sends : List Outgoing) (before after : List ℕ) : Type 0 where
-  pub middle : List ℕ
-  pub first : middle ≡ before ++ (label_line (names_in semantics) l ++ 10 ∷ [])
-  pub wrote : Wrote (sends_text semantics (went_out (new, sends))) middle after
+-- A label that led to a state was recorded behind others, and those of its sends that went out behind those before.
+pub record KeepsLabel (l : Label) (new : State) (sends : List Outgoing) (before after : Deeds) : Type 0 where
+  pub labels : after.labels ≡ before.labels ++ l ∷ []
+  pub sent : after.sent ≡ before.sent ++ went_out (new, sends)
 
 -- ---- one label
 
@@ -69,17 +50,17 @@ most_more (label.Copy q p i) = 1
 most_more (label.Forge q p bytes) = 1
 most_more _ = 0
 
--- One label was done, and its lines were written behind a text.
-pub record DidOne (semantics : Semantics) (l : Label) (old new : Course) (before after : List ℕ) : Type 0 where
+-- One label was done, and recorded behind others.
+pub record DidOne (semantics : Semantics) (l : Label) (old new : Course) (before after : Deeds) : Type 0 where
   pub sends : List Outgoing
   pub ran : step semantics old.state l ≡ Some (new.state, sends)
   pub fits : Fits semantics new.state
   pub cells : new.cells ≡ cells_in new.state
   pub few : new.cells ≤ old.cells + most_more l
-  pub wrote : WroteLines semantics old.state (l ∷ []) before after
+  pub recorded : Recorded semantics old.state (l ∷ []) before after
 
 -- A label was done where it is possible, and else nothing was.
-abbrev pub Tried : Semantics → Label → Course → Course → List ℕ → Bool → List ℕ → Type 0
+abbrev pub Tried : Semantics → Label → Course → Course → Deeds → Bool → Deeds → Type 0
 Tried semantics l old new before true after = DidOne semantics l old new before after
 Tried semantics l old new before false after = (step semantics old.state l ≡ None) × (new ≡ old) × (after ≡ before)
 
@@ -108,11 +89,11 @@ abbrev pub first_of : List (List ℕ) → ℕ → Option ℕ
 first_of errors p = slice_get errors p >>= λ senders. slice_get senders 0
 
 -- So many errors of a process were rejected, and nothing else happened.
-pub record Rejected (semantics : Semantics) (p rejects : ℕ) (old new : Course) (before after : List ℕ) : Type 0 where
+pub record Rejected (semantics : Semantics) (p rejects : ℕ) (old new : Course) (before after : Deeds) : Type 0 where
   pub labels : List Label
   pub of_process : Each (IsRejectOf p) labels
   pub counted : length labels ≡ rejects
-  pub did : Did semantics labels old new before after
+  pub did : Happened semantics labels old new before after
   pub course : IsCourse semantics new
   pub settled : new.state.falling ≡ None
   pub down : new.state.down ≡ old.state.down
@@ -145,9 +126,9 @@ pub record IsTaken (old : List Lcg) (p : ℕ) (taken : Lcg) (new : List Lcg) : T
   pub other : Lcg
   pub left : new ≡ slice_set old p other
 
--- An action was done with choices that the generator of its process drew, each a number of 64 bits, and its lines were
--- written behind a text.
-pub record DidAct (semantics : Semantics) (p a : ℕ) (old new : Course) (before after : List ℕ) : Type 0 where
+-- An action was done with choices that the generator of its process drew, each a number of 64 bits, and recorded behind
+-- others.
+pub record DidAct (semantics : Semantics) (p a : ℕ) (old new : Course) (before after : Deeds) : Type 0 where
   pub choices : List ℤ
   pub drawn : DrawsAct semantics old.state p a choices old.generators new.generators
   pub sized : Each (FitsSigned w64) choices
@@ -159,10 +140,10 @@ fall_labels None = []
 fall_labels (Some f) = label.Stop f.process f.receivers ∷ []
 
 -- A turn came to its end behind so many rejects.
-pub record Ended (semantics : Semantics) (p rejects : ℕ) (old new : Course) (before after : List ℕ) : Type 0 where
+pub record Ended (semantics : Semantics) (p rejects : ℕ) (old new : Course) (before after : Deeds) : Type 0 where
   pub labels : List Label
   pub ends : EndsTurn p rejects labels
-  pub did : Did semantics labels old new before after
+  pub did : Happened semantics labels old new before after
   pub course : IsCourse semantics new
   pub settled : new.state.falling ≡ None
   pub few : new.cells ≤ old.cells + 64

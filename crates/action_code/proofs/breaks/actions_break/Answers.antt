@@ -22,8 +22,8 @@ returns-in-Some c =
     let inside : c.loop-at.at < length c.args.process.now.actions = omega (arith, ap length c.as_slice-actions.ensures) in
     let element : c.index-actions-at.result ≡ get_or c.args.process.now.actions c.loop-at.at c.index-actions-at.result = c.index-actions-at.is ∙ ap (λ xs. get_or xs c.loop-at.at c.index-actions-at.result) c.as_slice-actions.ensures in
     let f = action_breaks c.args.code.now c.args.number c.args.process.now in
-    let said : slice_get (f c.loop-at.at (get_or c.args.process.now.actions c.loop-at.at c.index-actions-at.result)) 0 ≡ Some c.in-Some.bad = ap (λ (y : CodeAction). slice_get (f c.loop-at.at y) 0) (sym element) ∙ sym c.in_ok-bad.ensures ∙ c.in-Some.is in
-    sym (sym c.loop-at.invariant ∙ left_here f c.args.process.now.actions c.loop-at.at c.index-actions-at.result c.in-Some.bad inside said)
+    let said : slice_get (f c.loop-at.at (get_or c.args.process.now.actions c.loop-at.at c.index-actions-at.result)) 0 ≡ Some c.in-Some.bad = ap (λ (y : CodeAction). slice_get (f c.loop-at.at y) 0) (sym element) ∙ sym c.in_ok-bad.ensures.first ∙ c.in-Some.is in
+    sym (sym c.loop-at.invariant.first ∙ left_here f c.args.process.now.actions c.loop-at.at c.index-actions-at.result c.in-Some.bad inside said)
 
 pub loop-at-preserved : goal.loop-at-preserved
 loop-at-preserved c =
@@ -31,5 +31,5 @@ loop-at-preserved c =
     let element : c.index-actions-at.result ≡ get_or c.args.process.now.actions c.loop-at.at c.index-actions-at.result = c.index-actions-at.is ∙ ap (λ xs. get_or xs c.loop-at.at c.index-actions-at.result) c.as_slice-actions.ensures in
     let f = action_breaks c.args.code.now c.args.number c.args.process.now in
     let none : c.in_ok-bad.field-0 ≡ None = search rules in
-    let said : slice_get (f c.loop-at.at (get_or c.args.process.now.actions c.loop-at.at c.index-actions-at.result)) 0 ≡ None = ap (λ (y : CodeAction). slice_get (f c.loop-at.at y) 0) (sym element) ∙ sym c.in_ok-bad.ensures ∙ none in
-    sym (left_next f c.args.process.now.actions c.loop-at.at c.index-actions-at.result inside said) ∙ c.loop-at.invariant
+    let said : slice_get (f c.loop-at.at (get_or c.args.process.now.actions c.loop-at.at c.index-actions-at.result)) 0 ≡ None = ap (λ (y : CodeAction). slice_get (f c.loop-at.at y) 0) (sym element) ∙ sym c.in_ok-bad.ensures.first ∙ none in
+    record { first = sym (left_next f c.args.process.now.actions c.loop-at.at c.index-actions-at.result inside said) ∙ c.loop-at.invariant.first; place = c.in_ok-bad.ensures.place }

@@ -1,4 +1,4 @@
-use Rattle.std.proofs.Common.{◌≡◌, sym, subst, None}
+use Rattle.std.proofs.Common.{sym, subst, None}
 use Rattle.run_text.specs.inner.Reading.{BeginsNumber}
 use Rattle.run_text.proofs.Numbers.{long_begins}
 use Rattle.tapc_core.proofs.SeedTexts.{natural_found}

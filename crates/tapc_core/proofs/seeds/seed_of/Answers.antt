@@ -1,4 +1,4 @@
-use Rattle.std.proofs.Common.{◌≡◌, rules, sym, ap, ◌∙◌}
+use Rattle.std.proofs.Common.{rules}
 use Rattle.tapc_core.proofs.SeedTexts.{cut_seed, uncut}
 use Rattle.tapc_core.proofs.seeds.seed_of.Goals as goal
 

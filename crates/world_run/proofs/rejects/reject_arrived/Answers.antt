@@ -1,7 +1,10 @@
 use Rattle.std.proofs.Common.{sym, arith}
 use Rattle.world_run.specs.inner.Serving.{said_by}
-use Rattle.world_run.proofs.Rejecting.{none_first, one_more_rejected, process_there}
+use Rattle.world_run.proofs.Rejecting.{none_first, none_rejected, one_more_rejected, process_there}
 use Rattle.world_run.proofs.rejects.reject_arrived.Goals as goal
+
+pub loop-rejects-init : goal.loop-rejects-init
+loop-rejects-init c = none_rejected (said_by c.args.given.now) c.args.course.now c.args.process c.args.deeds.now c.requires.course c.requires.settled
 
 pub returns-in_default-clause-none_left : goal.returns-in_default-clause-none_left
 returns-in_default-clause-none_left c below =

@@ -1,4 +1,4 @@
-use Rattle.std.proofs.Common.{◌≡◌, ◌<◌, ◌∙◌, ◌^◌, ℕ, Option, string_bytes, length, ap, subst, arith}
+use Rattle.std.proofs.Common.{◌≡◌, ◌<◌, ◌∙◌, ◌^◌, ℕ, Option, length, ap, subst, arith}
 use Rattle.std.proofs.lemmas.List.{length-map}
 use Rattle.tap_exec.specs.Semantics.{messages_of, process_semantics}
 use Rattle.abstract_run.specs.declared.label.Label.TheVariants as label
@@ -25,7 +25,7 @@ act-requires-clause-enabled c =
 
 pub stop_fallen-requires-clause-course : goal.stop_fallen-requires-clause-course
 stop_fallen-requires-clause-course c =
-    let x : Behind (said_by c.args.given.now) c.args.course.now c.choose.new.course c.act.new.course c.args.process c.in-Some.action (string_bytes c.args.text.now) (string_bytes c.act.new.text) = record {
+    let x : Behind (said_by c.args.given.now) c.args.course.now c.choose.new.course c.act.new.course c.args.process c.in-Some.action c.args.deeds.now c.act.new.deeds = record {
       state = c.choose.ensures.state;
       cells = c.choose.ensures.cells;
       generators = c.choose.ensures.generators;
@@ -39,7 +39,7 @@ stop_fallen-requires-clause-course c =
 
 pub returns-in_ok-act-in-Some : goal.returns-in_ok-act-in-Some
 returns-in_ok-act-in-Some c =
-    let x : Behind (said_by c.args.given.now) c.args.course.now c.choose.new.course c.act.new.course c.args.process c.in-Some.action (string_bytes c.args.text.now) (string_bytes c.act.new.text) = record {
+    let x : Behind (said_by c.args.given.now) c.args.course.now c.choose.new.course c.act.new.course c.args.process c.in-Some.action c.args.deeds.now c.act.new.deeds = record {
       state = c.choose.ensures.state;
       cells = c.choose.ensures.cells;
       generators = c.choose.ensures.generators;

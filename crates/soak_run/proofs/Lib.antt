@@ -1,0 +1,4 @@
+pub mod Bounds
+pub mod MoreCounted
+pub mod NextEvents
+pub mod RunSoFar

@@ -1,0 +1,4 @@
+pub mod FirstLines
+pub mod Given
+pub mod Moved
+pub mod ReadOn

@@ -1,7 +1,0 @@
-use Rattle.world_run.specs.inner.Serving.{said_by}
-use Rattle.world_run.proofs.Lines.{sent_more}
-use Rattle.world_run.proofs.sends.write_sends.Goals as goal
-
-pub loop-send-preserved : goal.loop-send-preserved
-loop-send-preserved c =
-    sent_more (said_by c.args.given.now) c.args.sends.now c.loop-send.send-index c.send-item.result _ _ _ c.loop-send-test.true c.send-item.is c.loop-send.invariant c.in_ok-write_send.ensures

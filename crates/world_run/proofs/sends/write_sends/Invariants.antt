@@ -1,7 +1,0 @@
-use Rattle.std.proofs.Common.{take, string_bytes}
-use Rattle.world_run.specs.inner.Serving.{Wrote, said_by, sends_text}
-use Rattle.world_run.proofs.sends.write_sends.Given as goal
-
--- the lines of the datagrams so far were written
-abbrev pub invariant-loop-send : goal.invariant-loop-send
-invariant-loop-send l = Wrote (sends_text (said_by l.given) (take l.send-index l.sends)) (string_bytes l.fn.text) (string_bytes l.text)
