@@ -1,9 +1,9 @@
 """Finds places in crates/*/src that make want of memory from anything but a refused allocation.
 
 No contract ties want of memory to a cause, so the sources are read. `NoMemory` may be named as a type, matched, and
-handed on from one error type to another; it may be made in an `impl From` of an allocation error or of another want
-of memory, and in the `else` of a `let Ok(..)`, or for the `Err(_)` of a `match`, over a call that gives no other error.
-Any other line that names it is printed. Crates of tests are left out.
+handed on from one error type to another, also by a line of its own behind `Err(NoMemory) => {`; it may be made in an
+`impl From` of an allocation error or of another want of memory, and in the `else` of a `let Ok(..)`, or for the `Err(_)`
+of a `match`, over a call that gives no other error. Any other line that names it is printed. Crates of tests are left out.
 """
 import pathlib
 import re
@@ -36,7 +36,7 @@ def giving_it_alone(paths):
 
 
 def offences(path, alone):
-    inside_from = inside_else = inside_match = False
+    inside_from = inside_else = inside_match = inside_arm = False
     for number, line in enumerate(without_imports(path.read_text()).splitlines(), 1):
         call = re.match(r"\s*let Ok\(.*\) = (?:\w+(?:::|\.))*(\w+)\(.*\) else \{$", line)
         if call:
@@ -48,11 +48,17 @@ def offences(path, alone):
             inside_match = matched.group(1) in alone | OF_KIT
         elif re.match(r"\s*};?\s*$", line):
             inside_match = False
+        if re.match(r"\s*Err\(NoMemory\) => \{$", line):
+            inside_arm = True
+        elif re.match(r"\s*}\s*$", line):
+            inside_arm = False
         if re.search(r"\bfn from\(", line):
             inside_from = True
         elif re.match(r"\s*}\s*$", line):
             inside_from = False
         if "NoMemory" not in line or inside_from or inside_else:
+            continue
+        if inside_arm and re.match(r"\s*Err\(\w+::NoMemory\)$", line):
             continue
         if inside_match and re.match(r"\s*Err\(_\) => return Err\(\w+::NoMemory\),$", line):
             continue

@@ -1,9 +1,11 @@
 -- A machine of verified code can run the bodies of its process, and is one of its process after it.
-use Rattle.std.proofs.Common.{◌≡◌, ◌+◌, ◌≤◌, ℕ, zero, suc, ℤ, List, [], ◌∷◌, ◌++◌, map, take, drop, replicate, length, refl, ap, sym, subst, ◌∙◌, slice_get, Some, arith}
+use Rattle.std.proofs.Common.{◌≡◌, ◌≤◌, ℕ, zero, suc, ℤ, List, [], ◌∷◌, ◌++◌, map, take, drop, replicate, length, refl, ap, sym, subst, ◌∙◌, slice_get, Some, arith}
 use Rattle.std.proofs.lemmas.List.{length-append, length-map, length-take}
 use Rattle.rand_pcg.specs.Lcg.{Lcg}
 use Rattle.tap_base.specs.Interval.{from_to}
+use Rattle.tap_base.specs.Lists.{Each}
 use Rattle.tap_base.specs.Ranges.{AreAllIn}
+use Rattle.abstract_run.specs.Fits.{IsFitTimer}
 use Rattle.timer_core.specs.Timing.{Timing}
 use Rattle.register_code.specs.declared.bad.Part.TheVariants as part
 use Rattle.register_code.specs.declared.code.Code.{Code}
@@ -35,7 +37,7 @@ take_less (suc c) zero xs l = absurd (omega (arith, l))
 take_less (suc c) (suc k) [] l = refl
 take_less (suc c) (suc k) (x ∷ xs) l = ap (λ ys. x ∷ ys) (take_less c k xs (omega (arith, l)))
 
-module _ (code : Code) (m : Placed) (n : ℕ) (received : List ℤ) (timers : Timing) (box : Boxed) (verified : IsVerified code) (machine : IsMachineOf code m) (can : CanRun code m n received timers box) (a : HasAction code m.process n) where
+module _ (code : Code) (m : Placed) (n : ℕ) (received : List ℤ) (timers : Timing) (box : Boxed) (verified : IsVerified code) (machine : IsMachineOf code m) (can : CanRun code m n received timers box) (fit : Each IsFitTimer timers.states) (a : HasAction code m.process n) where
   process_is : machine.process ≡ a.of_process
   process_is = one_found (slice_get code.processes m.process) machine.process a.of_process machine.there a.there
 
@@ -51,13 +53,16 @@ module _ (code : Code) (m : Placed) (n : ℕ) (received : List ℤ) (timers : Ti
   inputs_fit : AreAllIn (input_ranges a.of_process) m.inputs
   inputs_fit = subst (λ (p : CodeProcess). AreAllIn (input_ranges p) m.inputs) process_is machine.inputs
 
+  timers_are : length timers.states ≡ a.of_process.timers
+  timers_are = subst (λ (p : CodeProcess). length timers.states ≡ p.timers) able_is can.timers_counted
+
   pub is_task : IsTask task
   is_task = record {
     verified = record { verified = verified; there = a.there; number = n; declared = a.declared };
     heard = subst (λ (x : CodeAction). ReceivedFit (received_fields code x) received) (same_action code m.process n can.action a) can.heard;
     inputs_fit = inputs_fit;
     fits = record {
-      running = record { cells = cells_fit; counted = subst (λ (p : CodeProcess). length timers.states ≡ p.timers) able_is can.timers_counted; timers = can.timers_fit };
+      running = record { cells = cells_fit; counted = timers_are; timers = fit };
       sends = tt;
     };
   }
@@ -127,7 +132,7 @@ module _ (code : Code) (m : Placed) (n : ℕ) (received : List ℤ) (timers : Ti
           few = done.few;
           drawn = done.drawn;
           moved = done.moved;
-          fit_timers = done.fits.running.timers;
+          timers_counted = done.fits.running.counted ∙ sym timers_are;
           time = done.time;
           process = ap (λ (p : Placed). p.process) m_is;
           inputs = inputs_after;
@@ -181,12 +186,12 @@ pub record Played (code : Code) (n keep : ℕ) (received : List ℤ) (m m_after 
 
 pub played : (code shown : Code) (m : Placed) (n cells keep number : ℕ) (received : List ℤ) (h core last : Held) (process : CodeProcess) (action : CodeAction) (messages : List CodeMessage) (instrs : List Instr)
     (timers timers_after : Timing) (g g_after : Lcg) (box box_after : Boxed) (steps steps_after : ℕ)
-    → IsVerified code → IsMachineOf code m → CanRun code m n received timers box → shown ≡ code → (view : m ≡ record { process = number; cells = take cells (take keep h.registers); inputs = drop cells (take keep h.registers); registers_room = h.registers_room; counters_room = h.counters_room })
+    → IsVerified code → IsMachineOf code m → CanRun code m n received timers box → Each IsFitTimer timers.states → shown ≡ code → (view : m ≡ record { process = number; cells = take cells (take keep h.registers); inputs = drop cells (take keep h.registers); registers_room = h.registers_room; counters_room = h.counters_room })
     → cells ≤ keep → keep ≤ length h.registers → slice_get shown.processes number ≡ Some process → slice_get process.actions n ≡ Some action → core ≡ opened action keep h → messages ≡ shown.messages → instrs ≡ action.body
     → CountsFinish messages instrs received (scene core timers box g) (scene last timers_after box_after g_after) steps steps_after
     → Played code n keep received m (record { process = number; cells = take cells (take keep last.registers); inputs = drop cells (take keep last.registers); registers_room = last.registers_room; counters_room = last.counters_room }) last timers timers_after g g_after box box_after
     steps steps_after
-played code shown m n cells keep number received h core last process action messages instrs timers timers_after g g_after box box_after steps steps_after verified machine can same view first inside there declared core_is messages_are instrs_are counts =
+played code shown m n cells keep number received h core last process action messages instrs timers timers_after g g_after box box_after steps steps_after verified machine can fit same view first inside there declared core_is messages_are instrs_are counts =
     let number_is : number ≡ m.process = sym (ap (λ (p : Placed). p.process) view) in
     let a = found code shown m number n process action same number_is there declared in
     let held = holds m cells keep number h inside view in
@@ -194,17 +199,17 @@ played code shown m n cells keep number received h core last process action mess
     let all = messages_are ∙ ap (λ (s : Code). s.messages) same in
     let left = ap (λ (q : ℕ). record { process = q; cells = take cells (take keep last.registers); inputs = drop cells (take keep last.registers); registers_room = last.registers_room; counters_room = last.counters_room }) number_is in
     record {
-      inside = inside_after code m n received timers box verified machine can a cells keep h core last timers_after box_after g g_after steps steps_after messages instrs held cells_is core_is all instrs_are counts;
-      machine = machine_after code m n received timers box verified machine can a cells keep h core last timers_after box_after g g_after steps steps_after messages instrs held cells_is core_is all instrs_are counts _ left;
+      inside = inside_after code m n received timers box verified machine can fit a cells keep h core last timers_after box_after g g_after steps steps_after messages instrs held cells_is core_is all instrs_are counts;
+      machine = machine_after code m n received timers box verified machine can fit a cells keep h core last timers_after box_after g g_after steps steps_after messages instrs held cells_is core_is all instrs_are counts _ left;
       runs = λ b. subst (λ (x : CodeAction). CountsRun code x received m _ timers timers_after g g_after box box_after steps steps_after) (same_action code m.process n a b)
-          (counts_run code m n received timers box verified machine can a cells keep h core last timers_after box_after g g_after steps steps_after messages instrs held cells_is core_is all instrs_are counts _ left);
+          (counts_run code m n received timers box verified machine can fit a cells keep h core last timers_after box_after g g_after steps steps_after messages instrs held cells_is core_is all instrs_are counts _ left);
     }
 
 pub begins_found : (code shown : Code) (m : Placed) (n cells keep number : ℕ) (received : List ℤ) (h core : Held) (process : CodeProcess) (action : CodeAction) (messages : List CodeMessage) (instrs : List Instr) (timers : Timing) (g : Lcg) (box : Boxed)
-    → IsVerified code → IsMachineOf code m → CanRun code m n received timers box → shown ≡ code → (view : m ≡ record { process = number; cells = take cells (take keep h.registers); inputs = drop cells (take keep h.registers); registers_room = h.registers_room; counters_room = h.counters_room })
+    → IsVerified code → IsMachineOf code m → CanRun code m n received timers box → Each IsFitTimer timers.states → shown ≡ code → (view : m ≡ record { process = number; cells = take cells (take keep h.registers); inputs = drop cells (take keep h.registers); registers_room = h.registers_room; counters_room = h.counters_room })
     → keep ≤ length h.registers → slice_get shown.processes number ≡ Some process → slice_get process.actions n ≡ Some action → core ≡ opened action keep h → messages ≡ shown.messages → instrs ≡ action.body
     → Begins messages instrs received (scene core timers box g)
-begins_found code shown m n cells keep number received h core process action messages instrs timers g box verified machine can same view inside there declared core_is messages_are instrs_are =
+begins_found code shown m n cells keep number received h core process action messages instrs timers g box verified machine can fit same view inside there declared core_is messages_are instrs_are =
     let number_is : number ≡ m.process = sym (ap (λ (p : Placed). p.process) view) in
     let a = found code shown m number n process action same number_is there declared in
-    begins code m n received timers box verified machine can a keep h core g messages instrs (holds m cells keep number h inside view) core_is (messages_are ∙ ap (λ (s : Code). s.messages) same) instrs_are
+    begins code m n received timers box verified machine can fit a keep h core g messages instrs (holds m cells keep number h inside view) core_is (messages_are ∙ ap (λ (s : Code). s.messages) same) instrs_are

@@ -1,9 +1,7 @@
 -- Runs of bodies on a machine.
 use Rattle.std.specs.Prelude.{◌≡◌, ℕ, ◌+◌, ◌≤◌, ℤ, List, [], take, drop, length, Some}
-use Rattle.tap_base.specs.Lists.{Each}
 use Rattle.tap_base.specs.Ranges.{AreAllIn}
 use Rattle.tap_exec.specs.Running.{Running}
-use Rattle.abstract_run.specs.Fits.{IsFitTimer}
 use Rattle.timer_core.specs.Timing.{Timing}
 use Rattle.rand_pcg.specs.Lcg.{Lcg}
 use Rattle.drawn_choices.specs.Draws.{AreDrawn, after_words, word_from}
@@ -92,13 +90,12 @@ CountsFinish messages instrs received before after steps steps_after = (b : Begi
 
 -- ---- a call of run
 
--- The action is one of the machine's process, what it received fits, there is a fitting timer for each that the process
--- has, and the outbox is empty and has the room of the process.
+-- The action is one of the machine's process, what it received fits, there is a timer for each that the process has, and
+-- the outbox is empty and has the room of the process.
 pub record CanRun (code : Code) (m : Placed) (number : ℕ) (received : List ℤ) (timers : Timing) (box : Boxed) : Type 0 where
   pub action : HasAction code m.process number
   pub heard : ReceivedFit (received_fields code action.action) received
   pub timers_counted : length timers.states ≡ action.of_process.timers
-  pub timers_fit : Each IsFitTimer timers.states
   pub empty : IsEmpty box
   pub room : IsOutboxOf code m.process box
 
@@ -114,7 +111,7 @@ pub record Ran (code : Code) (action : CodeAction) (received : List ℤ) (m m_af
   pub few : ran ≤ cost action.body
   pub drawn : AreDrawn (leads_code code.messages action m.inputs received (begun m timers [])) (word_from g) 0 box_after.chosen
   pub moved : g_after ≡ after_words (length box_after.chosen) g
-  pub fit_timers : Each IsFitTimer timers_after.states
+  pub timers_counted : length timers_after.states ≡ length timers.states
   pub time : timers_after.time ≡ timers.time
   pub process : m_after.process ≡ m.process
   pub inputs : m_after.inputs ≡ m.inputs

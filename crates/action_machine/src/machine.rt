@@ -124,6 +124,8 @@ impl Machine {
         let action = action_of(process, action);
         let messages = code.messages.as_slice();
         let instrs = action.body.as_slice();
+        // Only a call tells that the timers are fit.
+        let _time = timers.time();
         self.core
             .open(self.kept, action.temporaries.as_slice(), instrs.len());
         finish(

@@ -11,7 +11,6 @@ use Rattle.tap_base.specs.declared.wire.WireField.{WireField}
 use Rattle.tap_exec.specs.Filling.{field_value, filled}
 use Rattle.register_code.specs.declared.code.CodeField.{CodeField}
 use Rattle.register_code.specs.declared.code.CodeMessage.{CodeMessage}
-use Rattle.register_code.specs.declared.instr.Instr.TheVariants as instr
 use Rattle.register_code.specs.Declarations.{field_fits}
 use Rattle.register_code.specs.Fields.{code_field, code_message}
 use Rattle.register_code.specs.Instructions.{run_of}

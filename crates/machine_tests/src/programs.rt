@@ -106,34 +106,47 @@ fn first(alloc: Global, body: &[Instr]) -> Result<CodeProcess, NoMemory> {
     })
 }
 
-/// It receives the message from the first process.
-fn second(alloc: Global) -> Result<CodeProcess, NoMemory> {
+/// It receives the message from the first process. The registers are two cells within 0..15, of which each begins with 3,
+/// and then the temporaries: 2 within 0..15, 3 within 0..1 and 4 within 2..3.
+fn second(alloc: Global, body: &[Instr]) -> Result<CodeProcess, NoMemory> {
+    let mut variables = List::new(alloc);
+    variables.push(CodeVariable {
+        name: Text::copy_of(alloc, "y")?,
+        cells: 2,
+        lo: 0,
+        hi: 15,
+        initial: 3,
+    })?;
+    let mut temporaries = List::new(alloc);
+    for [lo, hi] in [[0, 15], [0, 1], [2, 3]] {
+        temporaries.push(CodeTemporary { lo, hi })?;
+    }
     let mut actions = List::new(alloc);
     actions.push(CodeAction {
         kind: CodeKind::Receive,
         a: 0,
         b: 0,
-        temporaries: List::new(alloc),
+        temporaries,
         guard: List::new(alloc),
         result: 0,
-        body: List::new(alloc),
+        body: List::from_slice(alloc, body)?,
     })?;
     Ok(CodeProcess {
         name: Text::copy_of(alloc, "b")?,
         inputs: List::new(alloc),
-        variables: List::new(alloc),
-        timers: 0,
+        variables,
+        timers: 1,
         actions,
     })
 }
 
-/// Two processes, of which the first has one action with this body.
-pub fn pair(alloc: Global, body: &[Instr]) -> Result<Code, NoMemory> {
+/// Two processes, of which each has one action. They have these bodies.
+pub fn pair(alloc: Global, sending: &[Instr], receiving: &[Instr]) -> Result<Code, NoMemory> {
     let mut messages = List::new(alloc);
     messages.push(message(alloc)?)?;
     let mut processes = List::new(alloc);
-    processes.push(first(alloc, body)?)?;
-    processes.push(second(alloc)?)?;
+    processes.push(first(alloc, sending)?)?;
+    processes.push(second(alloc, receiving)?)?;
     Ok(Code {
         messages,
         processes,

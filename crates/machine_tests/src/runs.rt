@@ -3,9 +3,10 @@
 //! those at 2 and 0.
 
 ghost use Rattle.std.specs.Prelude.{◌≡◌, ◌<◌};
+ghost use Rattle.action_machine.specs.Machines.{IsMachineOf};
 
 use super::programs::{pair, smallest};
-use super::suiting::suits;
+use super::suiting::{is_guarded, suits};
 use action_code::{Code, Instr, Verified, VerifyFault, verify};
 use action_machine::{Machine, Outbox, Sent, Steps};
 use drawn_choices::generator_of;
@@ -26,20 +27,35 @@ fn verified(rt: &impl Abort, alloc: Global, code: Code) -> Result<Verified, NoMe
     }
 }
 
-/// The body of the first process's action, and what it leaves: whether its guard held before, the cells, the choices, the
-/// sends and their values, and when its timer is due if the clock says 100 then.
+/// The body of the action of a process, with what it received, and what it leaves: whether its guard held before, if it has
+/// one, the cells, the choices, the sends and their values, and when its timer is due if the clock says 100 then.
 #[derive(Clone, Copy)]
 struct Row {
     name: &'static str,
+    process: u32,
     body: &'static [Instr],
     inputs: &'static [i64],
+    received: &'static [i64],
     timers: u32,
-    held: bool,
+    held: Option<bool>,
     cells: &'static [i64],
     choices: &'static [i64],
     sends: &'static [Sent],
     values: &'static [i64],
     due: Option<u64>,
+}
+
+/// Whether the guard of the action 0 holds, if it has one.
+fn guard_before(machine: &mut Machine, code: &Verified, process: u32) -> Option<bool>
+    requires machine { IsMachineOf code.now machine.old }
+    requires process { machine.old.process ≡ process }
+    ensures { machine.new ≡ machine.old }
+{
+    if is_guarded(code.code(), process, 0) {
+        Some(machine.guard(code, 0))
+    } else {
+        None
+    }
 }
 
 /// The action 0 is run, and leaves what the row says; then the outbox is cleared.
@@ -54,15 +70,30 @@ fn play<L: Ledger>(
     requires parts { blank.parts ≡ L.parts }
     requires some { 0 < L.parts }
 {
-    let suited = suits(code.code(), 0, 0, row.inputs, row.timers);
+    let suited = suits(
+        code.code(),
+        row.process,
+        0,
+        row.inputs,
+        row.timers,
+        row.received,
+    );
     assert!(rt; suited, "{}", row.name);
     let mut steps = Steps::<L>::new(blank);
-    let mut out = Outbox::new(alloc, code, 0)?;
-    let mut machine = Machine::new(alloc, code, 0, row.inputs)?;
+    let mut out = Outbox::new(alloc, code, row.process)?;
+    let mut machine = Machine::new(alloc, code, row.process, row.inputs)?;
     let mut timers = Timers::new(alloc, row.timers)?;
     let mut draw = generator_of(0, 0);
-    let held = machine.guard(code, 0);
-    machine.run(code, 0, &[], &mut draw, &mut timers, &mut out, &mut steps);
+    let held = guard_before(&mut machine, code, row.process);
+    machine.run(
+        code,
+        0,
+        row.received,
+        &mut draw,
+        &mut timers,
+        &mut out,
+        &mut steps,
+    );
     assert_eq!(rt; held, row.held, "{}", row.name);
     assert!(rt; machine.cells() == row.cells, "{}", row.name);
     assert!(rt; out.choices() == row.choices, "{}", row.name);
@@ -170,6 +201,33 @@ const TWICE: [Instr; 4] = [
     Instr::Again { first: 0 },
 ];
 
+/// Of the fields received, the second is divided by 2, compared with the cell that begins with 3, and waited for.
+const HEARD: [Instr; 5] = [
+    Instr::Part { r: 2, field: 1 },
+    Instr::Part { r: 3, field: 0 },
+    Instr::Div { r: 0, a: 2, b: 4 },
+    Instr::Max { r: 1, a: 1, b: 2 },
+    Instr::Start { timer: 0, a: 2 },
+];
+
+/// A value that is that of the first cell makes way for a choice.
+const ANSWERED: [Instr; 6] = [
+    Instr::Part { r: 2, field: 1 },
+    Instr::Eq { r: 3, a: 2, b: 0 },
+    Instr::JumpNe {
+        a: 3,
+        imm: 1,
+        target: 5,
+    },
+    Instr::Choose {
+        r: 1,
+        lo: 0,
+        hi: 15,
+    },
+    Instr::Jump { target: 6 },
+    Instr::Copy { r: 1, a: 2 },
+];
+
 /// Both sends of the second body; the first is also the only one of the first body.
 const SENT: [Sent; 2] = [
     Sent {
@@ -198,10 +256,12 @@ fn bodies_do_what_their_code_says(rt: HostRuntime) -> Result<(), Fail> {
     let alloc = rt.alloc();
     let none = Row {
         name: "nothing",
+        process: 0,
         body: &[],
         inputs: &[],
+        received: &[],
         timers: 0,
-        held: true,
+        held: Some(true),
         cells: &[],
         choices: &[],
         sends: &[],
@@ -218,10 +278,12 @@ fn bodies_do_what_their_code_says(rt: HostRuntime) -> Result<(), Fail> {
     let rows = [
         Row {
             name: "three turns, a choice, a send and a timer",
+            process: 0,
             body: &TURNS,
             inputs: &[4],
+            received: &[],
             timers: 1,
-            held: true,
+            held: Some(true),
             cells: &[2, 0, 0],
             choices: &[14],
             sends: &SENT_ONCE,
@@ -230,10 +292,12 @@ fn bodies_do_what_their_code_says(rt: HostRuntime) -> Result<(), Fail> {
         },
         Row {
             name: "one of two, a choice, two sends and a timer that is stopped",
+            process: 0,
             body: &BOTH,
             inputs: &[0],
+            received: &[],
             timers: 1,
-            held: false,
+            held: Some(false),
             cells: &[0, 1, 0],
             choices: &[1, 3],
             sends: &SENT,
@@ -242,11 +306,55 @@ fn bodies_do_what_their_code_says(rt: HostRuntime) -> Result<(), Fail> {
         },
         Row {
             name: "two turns",
+            process: 0,
             body: &TWICE,
             inputs: &[5],
+            received: &[],
             timers: 1,
-            held: true,
+            held: Some(true),
             cells: &[0, 0, 1],
+            choices: &[],
+            sends: &[],
+            values: &[],
+            due: None,
+        },
+        Row {
+            name: "a value that is received, and a timer that waits as long",
+            process: 1,
+            body: &HEARD,
+            inputs: &[],
+            received: &[1, 9],
+            timers: 1,
+            held: None,
+            cells: &[4, 9],
+            choices: &[],
+            sends: &[],
+            values: &[],
+            due: Some(109),
+        },
+        Row {
+            name: "a value that is the same, and a choice",
+            process: 1,
+            body: &ANSWERED,
+            inputs: &[],
+            received: &[1, 3],
+            timers: 1,
+            held: None,
+            cells: &[3, 14],
+            choices: &[14],
+            sends: &[],
+            values: &[],
+            due: None,
+        },
+        Row {
+            name: "a value that is another, and none",
+            process: 1,
+            body: &ANSWERED,
+            inputs: &[],
+            received: &[1, 5],
+            timers: 1,
+            held: None,
+            cells: &[3, 5],
             choices: &[],
             sends: &[],
             values: &[],
@@ -254,7 +362,11 @@ fn bodies_do_what_their_code_says(rt: HostRuntime) -> Result<(), Fail> {
         },
     ];
     for row in &rows {
-        let code = verified(&rt, alloc, pair(alloc, row.body)?)?;
+        let code = match row.process {
+            0 => pair(alloc, row.body, &[])?,
+            _ => pair(alloc, &[], row.body)?,
+        };
+        let code = verified(&rt, alloc, code)?;
         play::<Brand>(&rt, alloc, &code, Blank::new(1), row)?;
     }
     Ok(())

@@ -7,13 +7,12 @@ use Rattle.abstract_run.specs.CellCount.{cells_in}
 use Rattle.abstract_run.specs.Fits.{Fits}
 use Rattle.abstract_run.specs.Safe.{BodiesKeepRanges}
 use Rattle.abstract_run.specs.declared.label.Event.{Event}
-use Rattle.abstract_run.specs.declared.label.Event.TheVariants as event
 use Rattle.abstract_run.specs.declared.label.Label.{Label}
 use Rattle.abstract_run.specs.declared.state.State.{State}
 use Rattle.exact_choice.specs.Choice.{opening_cursors}
 use Rattle.exact_choice.specs.Draws.{opening_generators}
 use Rattle.exact_choice.specs.Rejects.{opening_errors}
-use Rattle.run_text.specs.ScheduleText.{HasLine, most_events}
+use Rattle.run_text.specs.ScheduleText.{most_events}
 use Rattle.run_text.specs.TraceText.{Datagram, datagram}
 use Rattle.schedule_gen.specs.Laws.{behind_events}
 use Rattle.schedule_gen.specs.Schedule.{Making, events_from, next_event, rest}
@@ -26,27 +25,13 @@ use Rattle.soak_run.proofs.Bounds.{as_many, few_counted}
 use Rattle.soak_run.proofs.MoreCounted.{few_of_kind, none_counted, tally_more}
 use Rattle.soak_run.proofs.NextEvents.{behind_more, one_more}
 use Rattle.world_run.specs.RunsFrom.{HasRun, IsRunFrom}
-use Rattle.world_run.specs.Served.{AnswersEvent, GoesOn, NamesProcesses, TookPlace, full_from, no_deeds}
+use Rattle.world_run.specs.Served.{AnswersEvent, GoesOn, TookPlace, WorldValue, full_from, no_deeds}
 use Rattle.world_run.specs.declared.course.Course.{Course}
 use Rattle.world_run.specs.declared.deeds.Deeds.{Deeds}
 use Rattle.world_run.specs.declared.fault.WorldFault.{WorldFault}
 use Rattle.world_run.specs.declared.fault.WorldFault.TheVariants as fault
-use Rattle.world_run.specs.declared.world.World.{World}
 use Rattle.world_run.proofs.Recording.{with_sents_more}
 use Rattle.world_run.proofs.RunsOn.{answered, event_runs_on, none_run}
-
--- ---- names of processes
-
--- an event that has a line names processes
-pub named : (n : ℕ) (e : Event) → HasLine n e → NamesProcesses n e
-named n (event.Turn p c) h = h.0
-named n (event.Arrive q p) h = h
-named n (event.Lose q p i) h = h.0
-named n (event.Copy q p i) h = h.0
-named n (event.Move q p i j) h = h.0
-named n (event.Damage q p i bytes) h = (h.0, h.2)
-named n (event.Forge q p bytes) h = (h.0, h.1)
-named n (event.Cut p k) h = h.0
 
 -- ---- a run
 
@@ -120,21 +105,20 @@ pub took_place : {own system : System} {e : Event} {old new : Course} {deeds : D
 took_place {own = own} {old = old} {new = new} {deeds = deeds} g same is took =
     subst (λ s. TookPlace (semantics_of s) (next_event g) old new no_deeds deeds) same (subst (λ x. TookPlace (semantics_of own) x old new no_deeds deeds) is took)
 
--- the cells that a world counts
-pub in_room : (w : World) → GoesOn w → w.course.cells ≤ full_from → cells_in w.course.state ≤ full_from
-in_room w on few = let same = on.steady.whole.cells in omega (arith, same, few)
-
 -- an event that was not served ends the run where it is
-pub stopped : (seed n : ℕ) (m own : Semantics) (start : State) (making : Making) (i : ℕ) (old new : Course) (generator : Making) (tally : Tally) (e : Event) (last deeds : Deeds) (f : WorldFault)
-    → SoFar seed m start making i old generator tally → i < n → AnswersEvent own e old last (Err f) new deeds → Soaks seed m start making n (Err f) new.state
-stopped seed n m own start making i old new generator tally e last deeds (fault.Full cells) h few answers =
-    (i, few, h.labels, subst (λ (x : Course). IsRunFrom seed m start (events_from i making) h.labels x.state) (sym answers.2) h.run.run, answers.0, answers.1 ∙ ap (λ (x : Course). cells_in x.state) (sym answers.2))
-stopped seed n m own start making i old new generator tally e last deeds fault.NoMemory h few answers = tt
+pub stopped : (seed n : ℕ) (m : Semantics) (start : State) (making : Making) (i : ℕ) (old new : WorldValue) (generator : Making) (tally : Tally) (e : Event) (f : WorldFault)
+    → SoFar seed m start making i old.course generator tally → i < n → GoesOn old → AnswersEvent e old (Err f) new → Soaks seed m start making n (Err f) new.course.state
+stopped seed n m start making i old new generator tally e (fault.Full cells) h few on answers =
+    let over = answers.0 in
+    (i, few, h.labels, subst (λ (w : WorldValue). IsRunFrom seed m start (events_from i making) h.labels w.course.state) (sym answers.1) h.run.run, over.many, over.counted ∙ ap (λ (w : WorldValue). cells_in w.course.state) (sym answers.1))
+stopped seed n m start making i old new generator tally e fault.Ended h few on answers = let going = on.going in let over = answers.0 in cc
+stopped seed n m start making i old new generator tally e fault.NoMemory h few on answers = tt
 
 -- its world can go on, unless memory was refused
-pub still_goes_on : (f : WorldFault) (w : World) → ((cells : ℕ) → f ≡ fault.Full cells → GoesOn w) → GoesOnWith (Err f) w
-still_goes_on (fault.Full cells) w h = h cells refl
-still_goes_on fault.NoMemory w h = tt
+pub still_goes_on : (e : Event) (f : WorldFault) (old new : WorldValue) → GoesOn old → AnswersEvent e old (Err f) new → GoesOnWith (Err f) new
+still_goes_on e (fault.Full cells) old new on answers = subst GoesOn (sym answers.1) on
+still_goes_on e fault.Ended old new on answers = let going = on.going in let over = answers.0 in cc
+still_goes_on e fault.NoMemory old new on answers = tt
 
 -- an error that is known
 pub err_is : {T E : Type 0} (r : Result T E) (e : E) → IsErrAnd r (λ x. x ≡ e) → r ≡ Err e

@@ -3,13 +3,10 @@
 ghost use Rattle.std.specs.Prelude.{◌≡◌, ◌≤◌};
 ghost use Rattle.tap_base.specs.Resolved.{IsResolved};
 ghost use Rattle.tap_exec.specs.Semantics.{semantics_of};
-ghost use Rattle.exact_choice.specs.Choice.{opening_cursors};
-ghost use Rattle.exact_choice.specs.Draws.{opening_generators};
-ghost use Rattle.exact_choice.specs.Rejects.{opening_errors};
 ghost use Rattle.run_text.specs.ScheduleText.{most_events};
 ghost use Rattle.schedule_gen.specs.Schedule.{opening};
 ghost use Rattle.soak_run.specs.Soaked.{GoesOnWith, Soaks};
-ghost use Rattle.world_run.specs.Served.{GoesOn};
+ghost use Rattle.world_run.specs.Served.{IsFresh};
 
 use crate::tally::Tally;
 use schedule_gen::Generator;
@@ -25,7 +22,7 @@ use world_run::{World, WorldFault};
 /// # Errors
 ///
 /// `Full` where an event was reached with more than 99,936 cells in the channels: the world stands where
-/// the events before it have led. `NoMemory`: the world is then one within an event, and cannot go on.
+/// the events before it have led. `NoMemory`: the world may have ended then.
 pub fn soak(
     alloc: Global,
     world: &mut World,
@@ -33,17 +30,14 @@ pub fn soak(
     faults: u32,
     seed: u64,
 ) -> Result<Tally, WorldFault>
-    requires goes_on { GoesOn world.old }
+    requires fresh { IsFresh world.old }
     requires resolved { IsResolved world.old.system }
-    requires opened { world.old.course.turnstiles ≡ opening_cursors (semantics_of world.old.system) }
-    requires seeded { world.old.course.generators ≡ opening_generators world.old.seed (semantics_of world.old.system) }
-    requires no_errors { world.old.course.errors ≡ opening_errors (semantics_of world.old.system) }
     requires few { events ≤ most_events }
     ensures soaks { Soaks world.old.seed (semantics_of world.old.system) world.old.course.state (opening world.old.system seed faults) events result world.new.course.state }
     ensures system { world.new.system ≡ world.old.system }
     ensures goes_on { GoesOnWith result world.new }
 {
-    let mut generator = Generator::new(alloc, &world.system, seed, faults)?;
+    let mut generator = Generator::new(alloc, world.system(), seed, faults)?;
     let mut tally = Tally::new();
     for _i in 0..events {
         let event = generator.next(alloc)?;

@@ -1,17 +1,14 @@
 //! The world is played on a schedule.
 
-ghost use Rattle.std.specs.Prelude.{◌≡◌, ◌≤◌, ◌<◌, ◌^◌, ◌⊎◌, [], length, IfOk, MatchOption, OnSome};
+ghost use Rattle.std.specs.Prelude.{◌≡◌, ◌≤◌, ◌<◌, ◌^◌, ◌⊎◌, [], false, length, IfOk, MatchOption, OnSome};
 ghost use Rattle.tap_exec.specs.Semantics.{semantics_of};
-ghost use Rattle.exact_choice.specs.Choice.{opening_cursors};
-ghost use Rattle.exact_choice.specs.Draws.{opening_generators};
-ghost use Rattle.exact_choice.specs.Rejects.{opening_errors};
 ghost use Rattle.run_text.specs.Names.{AreNames};
 ghost use Rattle.run_text.specs.ScheduleText.{IsLineOf, IsOfNoEvent, most_events};
 ghost use Rattle.run_text.specs.TraceText.{names_in};
 ghost use Rattle.link_trait.specs.Outside.{HasCause};
-ghost use Rattle.tapc_core.specs.inner.Playing.{HasPlayCause, Moves, Plays};
+ghost use Rattle.tapc_core.specs.inner.Playing.{HasPlayCause, Moves, Plays, StopsAt};
 ghost use Rattle.world_run.specs.Names.{AreNamesOf};
-ghost use Rattle.world_run.specs.Served.{GoesOn};
+ghost use Rattle.world_run.specs.Served.{IsFresh, NamesProcesses};
 
 use abstract_run::Event;
 use link_trait::{Failed, Sink};
@@ -37,20 +34,6 @@ pub enum Stop {
     NoMemory,
     /// A put failed.
     Failed,
-}
-
-impl From<WorldFault> for Stop {
-    ghost use Rattle.std.specs.Prelude.{◌≡◌};
-    ghost use Rattle.tapc_core.specs.inner.Playing.{stopped_by};
-
-    ghost from_gives = { λ fault given. given ≡ stopped_by fault };
-
-    fn from(fault: WorldFault) -> Stop {
-        match fault {
-            WorldFault::Full { cells } => Stop::Full { cells },
-            WorldFault::NoMemory => Stop::NoMemory,
-        }
-    }
 }
 
 impl From<NoMemory> for Stop {
@@ -83,10 +66,7 @@ pub fn play_lines<O: Sink>(
     page: &mut Vec<u8>,
     out: &mut O,
 ) -> Result<(), Stop>
-    requires goes_on { GoesOn world.old }
-    requires opened { world.old.course.turnstiles ≡ opening_cursors (semantics_of world.old.system) }
-    requires seeded { world.old.course.generators ≡ opening_generators world.old.seed (semantics_of world.old.system) }
-    requires no_errors { world.old.course.errors ≡ opening_errors (semantics_of world.old.system) }
+    requires fresh { IsFresh world.old }
     requires names { AreNamesOf (semantics_of world.old.system) names.now }
     requires apart { AreNames (names_in (semantics_of world.old.system)) }
     requires empty { page.old.items ≡ [] }
@@ -101,12 +81,34 @@ pub fn play_lines<O: Sink>(
         let Some(event) = numbered_event(alloc, number, line, names)? else {
             return Err(Stop::BadLine { number });
         };
-        world.serve(alloc, names, &event, page)?;
+        serve_next(alloc, world, names, &event, page)?;
         put_full_page(page, out)?;
         rest = tail;
         number += 1;
     }
     Ok(())
+}
+
+/// Serves an event in a world that has not ended, and appends the lines of its labels to the page.
+fn serve_next(
+    alloc: Global,
+    world: &mut World,
+    names: &Names,
+    event: &Event,
+    page: &mut Vec<u8>,
+) -> Result<(), Stop>
+    requires going { world.old.ended ≡ false }
+    requires names { AreNamesOf (semantics_of world.old.system) names.now }
+    requires named { NamesProcesses (length world.old.system.processes) event.now }
+    ensures system { world.new.system ≡ world.old.system }
+    ensures stops { StopsAt event.now world.old page.old.items result world.new page.new.items }
+{
+    match world.serve(alloc, names, event, page) {
+        Ok(()) => Ok(()),
+        Err(WorldFault::Full { cells }) => Err(Stop::Full { cells }),
+        Err(WorldFault::NoMemory) => Err(Stop::NoMemory),
+        Err(WorldFault::Ended) => unreachable!(),
+    }
 }
 
 /// The event of a line of the schedule, counted from 1; none where the line is that of no event, or of

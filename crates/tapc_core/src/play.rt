@@ -5,9 +5,6 @@ ghost use Rattle.tap_base.specs.Wires.{wire_of};
 ghost use Rattle.abstract_run.specs.Fits.{InputsFit};
 ghost use Rattle.abstract_run.specs.Opening.{opening_state};
 ghost use Rattle.tap_exec.specs.Semantics.{semantics_of};
-ghost use Rattle.exact_choice.specs.Choice.{opening_cursors};
-ghost use Rattle.exact_choice.specs.Draws.{opening_generators};
-ghost use Rattle.exact_choice.specs.Rejects.{opening_errors};
 ghost use Rattle.run_text.specs.Names.{AreNames};
 ghost use Rattle.run_text.specs.TraceText.{last_lines, lines_text, names_in};
 ghost use Rattle.link_trait.specs.Outside.{IsTold};
@@ -23,7 +20,7 @@ ghost use Rattle.tapc_core.specs.inner.Playing.{AreOf};
 ghost use Rattle.exact_choice.specs.Runnable.{IsRunnable};
 ghost use Rattle.world_run.specs.Layouts.{HasLayout};
 ghost use Rattle.world_run.specs.Names.{AreNamesOf};
-ghost use Rattle.world_run.specs.Served.{GoesOn};
+ghost use Rattle.world_run.specs.Served.{IsFresh};
 
 use crate::closing::{NO_MEMORY, close, close_behind};
 use crate::files::FileFault;
@@ -99,10 +96,7 @@ fn play_world<O: Sink>(
     schedule: &[u8],
     out: &mut O,
 ) -> Status
-    requires goes_on { GoesOn world.old }
-    requires opened { world.old.course.turnstiles ≡ opening_cursors (semantics_of world.old.system) }
-    requires seeded { world.old.course.generators ≡ opening_generators world.old.seed (semantics_of world.old.system) }
-    requires no_errors { world.old.course.errors ≡ opening_errors (semantics_of world.old.system) }
+    requires fresh { IsFresh world.old }
     requires names { AreNamesOf (semantics_of world.old.system) names.now }
     requires apart { AreNames (names_in (semantics_of world.old.system)) }
     ensures writes { (task : Task) (inputs : Inputs) → world.old.course.state ≡ opening_state (semantics_of world.old.system) inputs → AreOf world.old.seed world.old.system inputs schedule.now task → Writes (OfWorld task) result (O.written out.old) (O.written out.new) }

@@ -6,9 +6,6 @@ ghost use Rattle.tap_base.specs.Wires.{wire_of};
 ghost use Rattle.tap_base.specs.declared.system.Inputs.{Inputs};
 ghost use Rattle.abstract_run.specs.Fits.{InputsFit};
 ghost use Rattle.abstract_run.specs.Opening.{opening_state};
-ghost use Rattle.exact_choice.specs.Choice.{opening_cursors};
-ghost use Rattle.exact_choice.specs.Draws.{opening_generators};
-ghost use Rattle.exact_choice.specs.Rejects.{opening_errors};
 ghost use Rattle.exact_choice.specs.Runnable.{IsRunnable};
 ghost use Rattle.link_trait.specs.Outside.{IsTold};
 ghost use Rattle.run_text.specs.ScheduleText.{most_events};
@@ -23,7 +20,7 @@ ghost use Rattle.tapc_core.specs.commands.Soak.{IsSoakFull, IsSoakText, soak_com
 ghost use Rattle.tapc_core.specs.inner.Soaking.{ClosesSoak, IsSoaking};
 ghost use Rattle.world_run.specs.Layouts.{HasLayout};
 ghost use Rattle.world_run.specs.Names.{AreNamesOf};
-ghost use Rattle.world_run.specs.Served.{GoesOn};
+ghost use Rattle.world_run.specs.Served.{IsFresh};
 
 use crate::closing::{NO_MEMORY, close};
 use crate::play::close_full;
@@ -83,6 +80,7 @@ fn soak_system<O: Sink>(alloc: Global, start: Start, asked: Numbers, out: &mut O
         Ok(text) => close(text.as_bytes(), out, Status::Done),
         Err(WorldFault::Full { cells }) => close_full(alloc, cells, &[], out),
         Err(WorldFault::NoMemory) => close(NO_MEMORY, out, Status::NoMemory),
+        Err(WorldFault::Ended) => unreachable!(),
     }
 }
 
@@ -95,6 +93,7 @@ fn soak_text(alloc: Global, start: Start, asked: Numbers) -> Result<String, Worl
     requires few { asked.events ≤ most_events }
     ensures text { IfOk result (λ text. IsSoakText asked.seed asked.faults asked.events start.system start.inputs (string_bytes text)) }
     ensures full { (cells : ℕ) → result ≡ Err (WorldFault.Full cells) → IsSoakFull asked.seed asked.faults asked.events start.system start.inputs cells }
+    ensures going { result ≡ Err WorldFault.Ended → ⊥ }
 {
     let Start { system, inputs } = start;
     let names = names_of(alloc, &system)?;
@@ -109,16 +108,14 @@ fn soak_opened(
     names: &Names,
     asked: Numbers,
 ) -> Result<String, WorldFault>
-    requires goes_on { GoesOn world.old }
+    requires fresh { IsFresh world.old }
     requires resolved { IsResolved world.old.system }
     requires seed { world.old.seed ≡ asked.seed }
-    requires opened { world.old.course.turnstiles ≡ opening_cursors (semantics_of world.old.system) }
-    requires seeded { world.old.course.generators ≡ opening_generators asked.seed (semantics_of world.old.system) }
-    requires no_errors { world.old.course.errors ≡ opening_errors (semantics_of world.old.system) }
     requires names { AreNamesOf (semantics_of world.old.system) names.now }
     requires few { asked.events ≤ most_events }
     ensures text { (inputs : Inputs) → world.old.course.state ≡ opening_state (semantics_of world.old.system) inputs → IfOk result (λ text. IsSoakText asked.seed asked.faults asked.events world.old.system inputs (string_bytes text)) }
     ensures full { (cells : ℕ) (inputs : Inputs) → world.old.course.state ≡ opening_state (semantics_of world.old.system) inputs → result ≡ Err (WorldFault.Full cells) → IsSoakFull asked.seed asked.faults asked.events world.old.system inputs cells }
+    ensures going { result ≡ Err WorldFault.Ended → ⊥ }
 {
     match soak_world(alloc, world, asked.events, asked.faults, asked.seed) {
         Ok(tally) => Ok(ended_text(alloc, world, names, asked.events, &tally)?),

@@ -2,7 +2,9 @@
 
 ghost use Rattle.std.specs.Prelude.{◌≡◌, ◌≤◌, ◌<◌, ◌^◌, ◌∷◌, map, length, replicate, slice_get, slice_set, Some, IfOk, MatchOption};
 ghost use Rattle.std.specs.Option.{option_map};
+ghost use Rattle.tap_base.specs.Lists.{Each};
 ghost use Rattle.abstract_run.specs.Enabled.{is_due};
+ghost use Rattle.abstract_run.specs.Fits.{IsFitTimer};
 ghost use Rattle.abstract_run.specs.Step.{time_after, timer_after as later};
 ghost use Rattle.timer_core.specs.Due.{IsNextDue, NoneIsDue};
 ghost use Rattle.timer_core.specs.inner.Sooner.{sooner};
@@ -24,13 +26,15 @@ pub struct Timers {
 
 impl Model for Timers {
     ghost use Rattle.std.specs.Prelude.{◌≤◌, ◌^◌};
+    ghost use Rattle.tap_base.specs.Lists.{Each};
+    ghost use Rattle.abstract_run.specs.Fits.{IsFitTimer};
     ghost use Rattle.timer_core.specs.Timing.{Timing};
 
     ghost Value = { Timing };
 
     ghost view = { λ t. record { time = t.time; states = t.states } };
 
-    ghost invariant = { λ t. t.time ≤ 2 ^ 62 };
+    ghost invariant = { λ t. (t.time ≤ 2 ^ 62) × Each IsFitTimer t.states };
 }
 
 impl Timers {
@@ -82,6 +86,7 @@ impl Timers {
     pub fn time(&self) -> u64
         ensures time { result ≡ self.now.time }
         ensures within { result ≤ 2 ^ 62 }
+        ensures fit { Each IsFitTimer self.now.states }
     {
         self.time
     }

@@ -4,7 +4,9 @@ pub mod Events
 pub mod LaidOut
 pub mod Leaves
 pub mod Lines
+pub mod LinesName
 pub mod OneLabel
+pub mod Opened
 pub mod Recording
 pub mod Rejecting
 pub mod RunsOn

@@ -134,9 +134,8 @@ few_acts m s (event.Cut p n) labels is = subst Few (sym is) (inr (tt, tt))
 -- ---- the lines
 
 -- the lines of an event that was recorded were written
-pub served_by : (m : Semantics) (e : Event) (old new : Course) (deeds : Deeds) (before written after : List ℕ) → TookPlace m e old new no_deeds deeds → Wrote (labels_text m deeds.sent deeds.labels) [] written
-    → after ≡ before ++ written → Served m e old new before after
-served_by m e old new deeds before written after x w page =
+pub served_by : (m : Semantics) (e : Event) (old new : Course) (deeds : Deeds) (before after : List ℕ) → TookPlace m e old new no_deeds deeds → Wrote (labels_text m deeds.sent deeds.labels) before after → Served m e old new before after
+served_by m e old new deeds before after x w =
     let r = x.happened.recorded in
     let ds = mapped (each (datagram m) deeds.sent) _ w.lines w.shown in
     let same : ds.x ≡ sents r.pairs = some_same (each (datagram m) deeds.sent) ds.x (sents r.pairs) ds.from (ap (each (datagram m)) r.sent_are ∙ r.spelled) in
@@ -157,7 +156,7 @@ served_by m e old new deeds before written after x w page =
         wrote = record {
           lines = lines;
           shown = ap (λ o. option_map (flat_map (lines_with (names_in m))) o) r.shown;
-          told = page ∙ ap (λ z. before ++ z) (w.told ∙ told);
+          told = w.told ∙ ap (λ z. before ++ z) told;
         };
       };
     }

@@ -1,5 +1,7 @@
 -- What a world does in an event.
-use Rattle.std.specs.Prelude.{◌≡◌, ℕ, ◌<◌, ◌≤◌, List, [], ◌++◌, length, flat_map, None, Some, Result, Ok, Err}
+use Rattle.std.specs.Prelude.{◌≡◌, ℕ, ◌<◌, ◌≤◌, Bool, true, false, List, [], ◌++◌, length, flat_map, None, Some, Result, Ok, Err}
+use Rattle.tap_base.specs.declared.system.System.{System}
+use Rattle.tap_base.specs.declared.wire.Wire.{Wire}
 use Rattle.tap_base.specs.Lists.{Each}
 use Rattle.tap_base.specs.Option.{each}
 use Rattle.tap_exec.specs.declared.running.Outgoing.{Outgoing}
@@ -14,21 +16,20 @@ use Rattle.abstract_run.specs.Fits.{Fits}
 use Rattle.abstract_run.specs.Run.{state_after}
 use Rattle.byte_meaning.specs.Messages.{AreValuesOf}
 use Rattle.exact_choice.specs.Runnable.{IsRunnable}
-use Rattle.exact_choice.specs.Choice.{AllChoose, AreCursorsOf}
-use Rattle.exact_choice.specs.Draws.{AllDraw}
+use Rattle.exact_choice.specs.Choice.{AllChoose, AreCursorsOf, opening_cursors}
+use Rattle.exact_choice.specs.Draws.{AllDraw, opening_generators}
 use Rattle.exact_choice.specs.Moments.{moments}
-use Rattle.exact_choice.specs.Rejects.{AllReject, AreErrorsOf}
+use Rattle.exact_choice.specs.Rejects.{AllReject, AreErrorsOf, opening_errors}
 use Rattle.run_text.specs.ScheduleText.{AreTwo}
 use Rattle.run_text.specs.Sized.{AreDatagram, IsSized}
 use Rattle.run_text.specs.TraceText.{Datagram, datagram, lines_text, run_lines, with_sents}
 use Rattle.world_run.specs.declared.course.Course.{Course}
 use Rattle.world_run.specs.declared.deeds.Deeds.{Deeds}
-use Rattle.world_run.specs.declared.world.World.{World}
 use Rattle.world_run.specs.declared.fault.WorldFault.{WorldFault}
 use Rattle.world_run.specs.declared.fault.WorldFault.TheVariants as fault
 use Rattle.world_run.specs.Layouts.{IsLayoutOf}
 
--- ---- courses and worlds
+-- ---- courses
 
 -- A course of a run that fits what is said of a system: its state fits, there is a cursor for each process, a generator
 -- and a list of the errors that have arrived at it, and the count is that of the cells.
@@ -43,12 +44,6 @@ pub record IsCourse (semantics : Semantics) (course : Course) : Type 0 where
 pub record IsSteady (semantics : Semantics) (course : Course) : Type 0 where
   pub whole : IsCourse semantics course
   pub settled : course.state.falling ≡ None
-
--- A world that can go on: its system can be run, its layout is that of the system, and the course fits, with nothing falling.
-pub record GoesOn (world : World) : Type 0 where
-  pub runnable : IsRunnable world.system
-  pub layout : IsLayoutOf world.system world.layout
-  pub steady : IsSteady (semantics_of world.system) world.course
 
 -- ---- events
 
@@ -121,21 +116,71 @@ pub record Served (semantics : Semantics) (event : Event) (old new : Course) (be
   pub serves : Serves semantics old.state event labels new.state
   pub did : Did semantics labels old new before after
 
+-- ---- worlds
+
+-- a world, as its callers see it
+pub record WorldValue : Type 0 where
+  pub system : System
+  -- of its draws
+  pub seed : ℕ
+  -- how the messages of the system are written as bytes
+  pub layout : Wire
+  pub course : Course
+  -- what the last event did that was served
+  pub last : Deeds
+  -- whether memory was refused within an event
+  pub ended : Bool
+
+-- The system can be run, the layout is its own, and unless the world has ended the course fits, with nothing falling.
+pub record IsWhole (system : System) (layout : Wire) (course : Course) (ended : Bool) : Type 0 where
+  pub runnable : IsRunnable system
+  pub layout_is : IsLayoutOf system layout
+  pub steady : ended ≡ false → IsSteady (semantics_of system) course
+
+-- A world that can go on: it is whole, and has not ended.
+pub record GoesOn (world : WorldValue) : Type 0 where
+  pub runnable : IsRunnable world.system
+  pub layout : IsLayoutOf world.system world.layout
+  pub steady : IsSteady (semantics_of world.system) world.course
+  pub going : world.ended ≡ false
+
+-- A world that has served no event: in each process it is the first action's turn, its choices are drawn by the seed and its
+-- number, no error has arrived, and no label is recorded.
+pub record IsFresh (world : WorldValue) : Type 0 where
+  pub goes_on : GoesOn world
+  pub cursors : world.course.turnstiles ≡ opening_cursors (semantics_of world.system)
+  pub generators : world.course.generators ≡ opening_generators world.seed (semantics_of world.system)
+  pub errors : world.course.errors ≡ opening_errors (semantics_of world.system)
+  pub last : world.last ≡ no_deeds
+
 -- ---- what is answered
 
 -- with more cells than these a world serves no event
 abbrev pub full_from : ℕ
 full_from = 99936
 
--- An event takes place, and what it did stands in the place of what the last one did; unless there are too many cells, or
--- memory is refused.
-abbrev pub AnswersEvent : Semantics → Event → Course → Deeds → Result Unit WorldFault → Course → Deeds → Type 0
-AnswersEvent semantics event old last (Ok x) new deeds = (old.cells ≤ full_from) × TookPlace semantics event old new no_deeds deeds
-AnswersEvent semantics event old last (Err (fault.Full cells)) new deeds = (full_from < cells) × (cells ≡ cells_in old.state) × (new ≡ old) × (deeds ≡ last)
-AnswersEvent semantics event old last (Err fault.NoMemory) new deeds = (old.cells ≤ full_from) × (deeds ≡ last)
+-- A world that serves the next event: it has not ended, and there is room in its channels.
+pub record CanServe (world : WorldValue) : Type 0 where
+  pub going : world.ended ≡ false
+  pub room : cells_in world.course.state ≤ full_from
 
--- An event is served, unless there are too many cells, or memory is refused.
-abbrev pub Answers : Semantics → Event → Course → List ℕ → Result Unit WorldFault → Course → List ℕ → Type 0
-Answers semantics event old before (Ok x) new after = (old.cells ≤ full_from) × Served semantics event old new before after
-Answers semantics event old before (Err (fault.Full cells)) new after = (full_from < cells) × (cells ≡ cells_in old.state) × (new ≡ old) × (after ≡ before)
-Answers semantics event old before (Err fault.NoMemory) new after = (old.cells ≤ full_from) × (after ≡ before)
+-- One that has not ended either, with so many cells in its channels: too many.
+pub record IsOverfull (world : WorldValue) (cells : ℕ) : Type 0 where
+  pub going : world.ended ≡ false
+  pub many : full_from < cells
+  pub counted : cells ≡ cells_in world.course.state
+
+-- An event takes place, and what it did stands in the place of what the last one did, unless there are too many cells, or the
+-- world has ended; it ends where memory is refused.
+abbrev pub AnswersEvent : Event → WorldValue → Result Unit WorldFault → WorldValue → Type 0
+AnswersEvent event old (Ok x) new = CanServe old × TookPlace (semantics_of old.system) event old.course new.course no_deeds new.last × GoesOn new
+AnswersEvent event old (Err (fault.Full cells)) new = IsOverfull old cells × (new ≡ old)
+AnswersEvent event old (Err fault.Ended) new = (old.ended ≡ true) × (new ≡ old)
+AnswersEvent event old (Err fault.NoMemory) new = CanServe old × (new.last ≡ old.last) × (new.ended ≡ true)
+
+-- An event is served, and its lines are written behind a text, on the same terms; with any other answer the text stays.
+abbrev pub Answers : Event → WorldValue → List ℕ → Result Unit WorldFault → WorldValue → List ℕ → Type 0
+Answers event old before (Ok x) new after = CanServe old × Served (semantics_of old.system) event old.course new.course before after × GoesOn new
+Answers event old before (Err (fault.Full cells)) new after = IsOverfull old cells × (new ≡ old) × (after ≡ before)
+Answers event old before (Err fault.Ended) new after = (old.ended ≡ true) × (new ≡ old) × (after ≡ before)
+Answers event old before (Err fault.NoMemory) new after = CanServe old × (new.ended ≡ true) × (after ≡ before)

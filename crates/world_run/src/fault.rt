@@ -11,6 +11,8 @@ use tap_base::NoMemory;
 pub enum WorldFault {
     /// So many cells stand in the channels: more than 99,936.
     Full { cells: u32 },
+    /// Memory was refused within an earlier event.
+    Ended,
     /// Memory was refused.
     NoMemory,
 }

@@ -1,19 +1,16 @@
 //! A system, and how far a run of it has come.
 
-ghost use Rattle.std.specs.Prelude.{◌≡◌, ◌≤◌, ◌+◌, length, IfOk, OnOk, string_bytes, ℕ, Err};
+ghost use Rattle.std.specs.Prelude.{◌≡◌, ◌≤◌, ◌+◌, false, length, IfOk, OnOk, string_bytes};
 ghost use Rattle.tap_base.specs.Wires.{wire_of};
 ghost use Rattle.abstract_run.specs.CellCount.{cells_in};
 ghost use Rattle.abstract_run.specs.Fits.{InputsFit};
 ghost use Rattle.abstract_run.specs.Opening.{opening_state};
 ghost use Rattle.exact_choice.specs.Runnable.{IsRunnable};
 ghost use Rattle.tap_exec.specs.Semantics.{semantics_of};
-ghost use Rattle.exact_choice.specs.Choice.{opening_cursors};
-ghost use Rattle.exact_choice.specs.Draws.{opening_generators};
-ghost use Rattle.exact_choice.specs.Rejects.{opening_errors};
 ghost use Rattle.run_text.specs.TraceText.{last_lines, lines_text};
 ghost use Rattle.world_run.specs.Layouts.{HasLayout};
 ghost use Rattle.world_run.specs.Names.{AreNamesOf};
-ghost use Rattle.world_run.specs.Served.{Answers, AnswersEvent, GoesOn, NamesProcesses, no_deeds};
+ghost use Rattle.world_run.specs.Served.{Answers, AnswersEvent, IsFresh, NamesProcesses};
 
 use crate::course::Course;
 use crate::deeds::Deeds;
@@ -24,27 +21,45 @@ use crate::layouts::layout_of;
 use crate::rejects::no_errors;
 use crate::serve::serve_event;
 use crate::turnstiles::turnstiles_of;
-use crate::writing::write_last;
+use crate::writing::append_last;
 use abstract_run::{Event, Label, Outgoing, init};
 use message_layout::Layout;
 use run_text::{Names, write_all_vars};
 use std::alloc::Global;
+use std::marker::Model;
 use tap_base::{Inputs, NoMemory, System};
 
 /// With more cells than these in its channels a world serves no event.
 const MOST_CELLS: u32 = 99_936;
 
-/// A system, and how far a run of it has come.
+/// A system, and how far a run of it has come. It serves one event after another. Where memory is
+/// refused within an event it has ended, and serves none any more.
 #[derive(Debug, Drop)]
 pub struct World {
-    pub system: System,
+    system: System,
     /// The seed of its draws.
-    pub seed: u64,
+    seed: u64,
     /// How the messages of the system are written as bytes.
-    pub layout: Layout,
-    pub course: Course,
+    layout: Layout,
+    course: Course,
     /// What the last event did that was served.
-    pub last: Deeds,
+    last: Deeds,
+    /// Whether memory was refused within an event.
+    ended: bool,
+}
+
+impl Model for World {
+    ghost use Rattle.std.specs.Coded.{codes};
+    ghost use Rattle.tap_base.specs.contracts.system.System as of_system;
+    ghost use Rattle.world_run.specs.Served.{IsWhole, WorldValue};
+
+    ghost Value = { WorldValue };
+
+    ghost coded = { Prim.hlevel (codes, of_system.the_row.coded) };
+
+    ghost view = { λ w. record { system = w.system; seed = w.seed; layout = w.layout; course = w.course; last = w.last; ended = w.ended } };
+
+    ghost invariant = { λ w. IsWhole w.system w.layout w.course w.ended };
 }
 
 impl World {
@@ -57,12 +72,8 @@ impl World {
         ensures system { IfOk result (λ w. w.system ≡ system) }
         ensures seed { IfOk result (λ w. w.seed ≡ seed) }
         ensures opening { IfOk result (λ w. w.course.state ≡ opening_state (semantics_of system) inputs.now) }
-        ensures cursors { IfOk result (λ w. w.course.turnstiles ≡ opening_cursors (semantics_of system)) }
-        ensures generators { IfOk result (λ w. w.course.generators ≡ opening_generators seed (semantics_of system)) }
-        ensures errors { IfOk result (λ w. w.course.errors ≡ opening_errors (semantics_of system)) }
-        ensures goes_on { IfOk result (λ w. GoesOn w) }
+        ensures fresh { IfOk result (λ w. IsFresh w) }
         ensures no_cells { IfOk result (λ w. w.course.cells ≡ 0) }
-        ensures last { IfOk result (λ w. w.last ≡ no_deeds) }
     {
         let state = init(alloc, &system, inputs)?;
         let turnstiles = turnstiles_of(alloc, &system)?;
@@ -81,7 +92,22 @@ impl World {
                 cells: 0,
             },
             last: Deeds::new(alloc),
+            ended: false,
         })
+    }
+
+    /// The system.
+    pub fn system(&self) -> &System
+        ensures { result.now ≡ self.now.system }
+    {
+        &self.system
+    }
+
+    /// How the messages of the system are written as bytes.
+    pub fn layout(&self) -> &Layout
+        ensures { result.now ≡ self.now.layout }
+    {
+        &self.layout
     }
 
     /// Serves an event, and records what it did. An event that cannot happen is one in which nothing
@@ -89,19 +115,19 @@ impl World {
     ///
     /// # Errors
     ///
-    /// `Full` exactly where more than 99,936 cells stand in the channels; nothing changes. `NoMemory`:
-    /// what is recorded stays, but the world is one within the event, and cannot go on.
+    /// `Full` exactly where more than 99,936 cells stand in the channels, and `Ended` exactly where the
+    /// world has ended; nothing changes. `NoMemory`: what is recorded stays, and the world has ended.
     pub fn event(&mut self, alloc: Global, event: &Event) -> Result<(), WorldFault>
-        requires goes_on { GoesOn self.old }
-        requires named { NamesProcesses (length self.old.system.processes) event.now }
+        requires { NamesProcesses (length self.old.system.processes) event.now }
         ensures system { self.new.system ≡ self.old.system }
         ensures seed { self.new.seed ≡ self.old.seed }
         ensures layout { self.new.layout ≡ self.old.layout }
-        ensures answers { AnswersEvent (semantics_of self.old.system) event.now self.old.course self.old.last result self.new.course self.new.last }
-        ensures goes_on { OnOk result (GoesOn self.new) }
+        ensures answers { AnswersEvent event.now self.old result self.new }
         ensures cells { OnOk result (self.new.course.cells ≤ self.old.course.cells + 64) }
-        ensures full { (cells : ℕ) → result ≡ Err (WorldFault.Full cells) → GoesOn self.new }
     {
+        if self.ended {
+            return Err(WorldFault::Ended);
+        }
         if self.course.cells > MOST_CELLS {
             return Err(WorldFault::Full {
                 cells: self.course.cells,
@@ -112,7 +138,9 @@ impl World {
             system: &self.system,
         };
         let mut deeds = Deeds::new(alloc);
+        self.ended = true;
         serve_event(&given, &mut self.course, event, &mut deeds)?;
+        self.ended = false;
         self.last = deeds;
         Ok(())
     }
@@ -131,10 +159,9 @@ impl World {
         self.last.sent.as_slice()
     }
 
-    /// How many cells stand in the channels.
+    /// How many cells stand in the channels, unless the world has ended.
     pub fn cells(&self) -> u32
-        requires { GoesOn self.now }
-        ensures { result ≡ cells_in self.now.course.state }
+        ensures { self.now.ended ≡ false → result ≡ cells_in self.now.course.state }
     {
         self.course.cells
     }
@@ -155,8 +182,8 @@ impl World {
     ///
     /// # Errors
     ///
-    /// `Full` exactly where more than 99,936 cells stand in the channels; nothing changes. `NoMemory`: the
-    /// page is then as it was, but the world is one within the event, and cannot go on.
+    /// `Full` exactly where more than 99,936 cells stand in the channels, and `Ended` exactly where the
+    /// world has ended; nothing changes. `NoMemory`: the page is then as it was, and the world has ended.
     pub fn serve(
         &mut self,
         alloc: Global,
@@ -164,18 +191,21 @@ impl World {
         event: &Event,
         page: &mut Vec<u8>,
     ) -> Result<(), WorldFault>
-        requires goes_on { GoesOn self.old }
         requires names { AreNamesOf (semantics_of self.old.system) names.now }
         requires named { NamesProcesses (length self.old.system.processes) event.now }
         ensures system { self.new.system ≡ self.old.system }
-        ensures answers { Answers (semantics_of self.old.system) event.now self.old.course page.old.items result self.new.course page.new.items }
-        ensures goes_on { OnOk result (GoesOn self.new) }
+        ensures seed { self.new.seed ≡ self.old.seed }
+        ensures layout { self.new.layout ≡ self.old.layout }
+        ensures answers { Answers event.now self.old page.old.items result self.new page.new.items }
         ensures cells { OnOk result (self.new.course.cells ≤ self.old.course.cells + 64) }
     {
         self.event(alloc, event)?;
-        let mut text = String::new(alloc);
-        write_last(self, names, &mut text)?;
-        page.extend_from_slice(text.as_bytes())?;
-        Ok(())
+        match append_last(alloc, self, names, page) {
+            Ok(()) => Ok(()),
+            Err(NoMemory) => {
+                self.ended = true;
+                Err(WorldFault::NoMemory)
+            }
+        }
     }
 }

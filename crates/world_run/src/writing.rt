@@ -1,6 +1,6 @@
 //! The lines of what a world did.
 
-ghost use Rattle.std.specs.Prelude.{[], ◌∷◌, OnOk, string_bytes};
+ghost use Rattle.std.specs.Prelude.{◌≡◌, [], ◌∷◌, OnErr, OnOk, string_bytes};
 ghost use Rattle.byte_meaning.specs.Messages.{AreValuesOf};
 ghost use Rattle.tap_base.specs.Lists.{Each};
 ghost use Rattle.tap_exec.specs.Semantics.{messages_of, semantics_of};
@@ -12,10 +12,34 @@ use crate::world::World;
 use abstract_run::{Label, Outgoing};
 use bit_codec::encode_into;
 use run_text::{Names, write_label, write_sent};
+use std::alloc::Global;
 use tap_base::NoMemory;
 
 /// How many bytes a message has at most.
 const MOST_BYTES: usize = 1024;
+
+/// Appends the lines of what a world did in its last event to a page.
+///
+/// # Errors
+///
+/// `NoMemory`; the page is then as it was.
+pub(crate) fn append_last(
+    alloc: Global,
+    world: &World,
+    names: &Names,
+    page: &mut Vec<u8>,
+) -> Result<(), NoMemory>
+    requires layout { IsLayoutOf world.now.system world.now.layout }
+    requires names { AreNamesOf (semantics_of world.now.system) names.now }
+    requires fit { Each (λ o. AreValuesOf (messages_of world.now.system) o.message o.values) world.now.last.sent }
+    ensures lines { OnOk result (Wrote (labels_text (semantics_of world.now.system) world.now.last.sent world.now.last.labels) page.old.items page.new.items) }
+    ensures page { OnErr result (page.new.items ≡ page.old.items) }
+{
+    let mut text = String::new(alloc);
+    write_last(world, names, &mut text)?;
+    page.extend_from_slice(text.as_bytes())?;
+    Ok(())
+}
 
 /// Appends the lines of what a world did in its last event: of each label, and behind that of an action
 /// those of what went out.
@@ -23,7 +47,7 @@ const MOST_BYTES: usize = 1024;
 /// # Errors
 ///
 /// `NoMemory`; the text may then have a front of the lines.
-pub(crate) fn write_last(world: &World, names: &Names, text: &mut String) -> Result<(), NoMemory>
+fn write_last(world: &World, names: &Names, text: &mut String) -> Result<(), NoMemory>
     requires layout { IsLayoutOf world.now.system world.now.layout }
     requires names { AreNamesOf (semantics_of world.now.system) names.now }
     requires fit { Each (λ o. AreValuesOf (messages_of world.now.system) o.message o.values) world.now.last.sent }
@@ -81,6 +105,6 @@ fn write_send(
 {
     let mut room = [0; MOST_BYTES];
     let values = send.values.as_slice();
-    let length = encode_into(&world.layout, send.message, values, &mut room);
+    let length = encode_into(world.layout(), send.message, values, &mut room);
     write_sent(text, names, send.to, &room[..length])
 }

@@ -7,7 +7,7 @@ use Rattle.tap_base.specs.declared.system.System.{System}
 use Rattle.tap_exec.specs.Semantics.{Semantics, semantics_of}
 use Rattle.abstract_run.specs.CellCount.{cells_in}
 use Rattle.world_run.specs.RunsFrom.{IsRunFrom}
-use Rattle.world_run.specs.Served.{full_from}
+use Rattle.world_run.specs.Served.{Answers, WorldValue, full_from}
 use Rattle.abstract_run.specs.declared.label.Event.{Event}
 use Rattle.abstract_run.specs.declared.label.Label.{Label}
 use Rattle.abstract_run.specs.declared.state.State.{State}
@@ -18,7 +18,6 @@ use Rattle.link_trait.specs.Outside.{Rose}
 use Rattle.tapc_core.specs.Run.{FileGives, Task}
 use Rattle.tapc_core.specs.declared.lines.Stop.{Stop}
 use Rattle.tapc_core.specs.declared.lines.Stop.TheVariants as stop
-use Rattle.world_run.specs.declared.fault.WorldFault.{WorldFault}
 use Rattle.world_run.specs.declared.fault.WorldFault.TheVariants as world_fault
 
 -- The file of the system gives what the system says, and with the settings these inputs; the seed is this one; and the
@@ -94,7 +93,9 @@ abbrev pub HasPlayCause : ℕ → ℕ → Result Unit Stop → Type 0
 HasPlayCause before now (Err stop.Failed) = (before ≤ now) × Rose before now
 HasPlayCause before now _ = now ≡ before
 
--- why a world stops the playing
-abbrev pub stopped_by : WorldFault → Stop
-stopped_by (world_fault.Full cells) = stop.Full cells
-stopped_by world_fault.NoMemory = stop.NoMemory
+-- what serving an event leaves in a world that has not ended: it is served, or there are too many cells, or memory was refused
+abbrev pub StopsAt : Event → WorldValue → List ℕ → Result Unit Stop → WorldValue → List ℕ → Type 0
+StopsAt event old before (Ok x) new after = Answers event old before (Ok x) new after
+StopsAt event old before (Err (stop.Full cells)) new after = Answers event old before (Err (world_fault.Full cells)) new after
+StopsAt event old before (Err stop.NoMemory) new after = Answers event old before (Err world_fault.NoMemory) new after
+StopsAt event old before (Err _) new after = ⊥

@@ -1,5 +1,5 @@
-use Rattle.machine_tests.proofs.Suited.{AreSoFar}
+use Rattle.machine_tests.proofs.Suited.{AreSoFar, of_input}
 use Rattle.machine_tests.proofs.suiting.all_within.Given as goal
 
 abbrev pub invariant-loop-at : goal.invariant-loop-at
-invariant-loop-at l = AreSoFar l.inputs l.given l.at
+invariant-loop-at l = AreSoFar of_input l.inputs l.given l.at

@@ -6,8 +6,8 @@ use Rattle.tapc_core.proofs.play.play_world.Goals as goal
 
 pub returns-in-Ok-clause-writes : goal.returns-in-Ok-clause-writes
 returns-in-Ok-clause-writes g c = λ task inputs begins of.
-    let fits = subst (Fits (semantics_of c.args.world.now.system)) begins c.requires.goes_on.steady.whole.fits in
-    trace_closes task c.play_lines.ensures.system c.requires.goes_on.runnable fits of (progress_from begins (on_page c.as_slice.ensures.value c.in-Ok.ensures.plays.1)) c.close_trace.ensures.closes
+    let fits = subst (Fits (semantics_of c.args.world.now.system)) begins c.requires.fresh.goes_on.steady.whole.fits in
+    trace_closes task c.play_lines.ensures.system c.requires.fresh.goes_on.runnable fits of (progress_from begins (on_page c.as_slice.ensures.value c.in-Ok.ensures.plays.1)) c.close_trace.ensures.closes
 
 pub returns-in-Err-BadLine-clause-writes : goal.returns-in-Err-BadLine-clause-writes
 returns-in-Err-BadLine-clause-writes g c = λ task inputs begins of.
